@@ -1,0 +1,7 @@
+pub mod Lists
+pub mod Runs
+pub mod Differences
+pub mod Ceil
+pub mod Weighted
+pub mod Ratios
+pub mod RatioCases

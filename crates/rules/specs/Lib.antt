@@ -1,0 +1,13 @@
+pub mod Word
+pub mod Book
+pub mod Run
+pub mod Faults
+pub mod Read
+pub mod Factors
+pub mod Weighted
+pub mod Weigh
+pub mod Ratio
+pub mod Rows
+pub mod Register
+pub mod Filing
+pub mod TwoDesks

@@ -1,0 +1,35 @@
+// The rules of document 01 are the definitions in specs/, from Word to Filing and TwoDesks; the laws about them that several crates
+// cite are in proofs/. The structs here are those that both the definitions and the code speak of.
+
+// An entry of the register: a bought protection, and how much of it no cover has drawn yet.
+pub struct Entry {
+    pub entity: u32,
+    pub rank: u32,
+    pub days: u32,
+    pub left: u32,
+}
+
+// The last day of the first and of the second band of the factors.
+pub struct Bands {
+    pub short: u32,
+    pub medium: u32,
+}
+
+// The sums of which the template is made, in thousandths of the unit, each by the row that it goes into.
+pub struct Sums {
+    pub assets: u64,
+    pub deducted: u64,
+    pub replacement: u64,
+    pub weighted: u64,
+    pub posted: u64,
+    pub offset: u64,
+    pub exempt: u64,
+    pub written: u64,
+    pub covered: u64,
+    pub financed: u64,
+    pub netted: u64,
+    pub principal: u64,
+    pub agent: u64,
+    pub committed: u64,
+    pub unconverted: u64,
+}

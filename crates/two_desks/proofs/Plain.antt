@@ -1,0 +1,116 @@
+-- Two books that differ in marks at most: protections, trades, written credits and covers have no marks, so they are the same.
+-- Assumes nothing.
+use Prim.Native.Nat.{ℕ, suc, _+_}
+use mathlib.Core.Path.{_≡_, refl, sym, _∙_, ap, fun-ext}
+use mathlib.Core.Bool.{Bool, true, false, not, _||_, cond}
+use mathlib.Core.List.{List}
+use native.Mathlib.Omega.{arith}
+use borrow.Author.Tests.{eqb-true, not-false}
+use lib.Dec.{leb, ltb, eqb}
+use lib.ListN.{length}
+use Rattle.rules.specs.Word.{word, kindOf, payloadOf, minusZero}
+use Rattle.rules.specs.Book.{Protection, Cover, Member, trade}
+use Rattle.rules.specs.Run.{Turn, over, bad, some, Run, runFrom}
+use Rattle.rules.specs.Read.{headOf, firstRecord, headFaulty, recordThen, stands, protectionAt, protectionTurn, coverAt, coverTurn, writtenAt, withCovers, writtenTurn, tradeAt, tradeTurn, memberTurn, protectionsOf}
+use Rattle.rules.specs.TwoDesks.{MoreRecognised}
+use Rattle.rules.proofs.Lists.{or-left, or-right, or-true}
+use Rattle.rules.proofs.Runs.{Turns, choices}
+use Rattle.rules.proofs.Runs
+use Rattle.two_desks.proofs.Marks.{kind-same}
+use Rattle.two_desks.proofs.Amounts.{word-same, amount-same, stands-turns, record-turns, turns-eq, eq-turns}
+
+-- the same turn at every place, the same run
+pub run-same : {A : Type 0} (t u : ℕ → Turn A) → ((at : ℕ) → t at ≡ u at) → (k at : ℕ) → runFrom t k at ≡ runFrom u k at
+run-same t u h k at = ap (λ f. runFrom f k at) (fun-ext h)
+
+module _ (xs ys : List ℕ) (l : MoreRecognised xs ys) where
+  cover-same : (at : ℕ) → coverTurn xs at ≡ coverTurn ys at
+  unfolding coverTurn coverAt
+  cover-same at =
+      turns-eq _ _ (stands-turns xs ys l (λ (a b : Cover). a ≡ b) 7 at _ _ over over
+      (λ k. record-turns xs ys l (λ (a b : Cover). a ≡ b) 7 at _ _ _ _ k
+      (λ e.
+      let w = word-same xs ys l at 7 k refl in
+      let a = amount-same xs ys l 1 at e 0 (omega arith) in
+      (rw (w, a), λ z next. Turns.somes (rw (w, a)))))
+      Turns.overs)
+
+  written-same : (at : ℕ) → kindOf (word xs at) ≡ 6 → Turns (λ (a b : Member). a ≡ b) (writtenTurn xs at) (writtenTurn ys at)
+  unfolding writtenTurn writtenAt
+  written-same at k =
+      record-turns xs ys l (λ (a b : Member). a ≡ b) 6 at _ _ _ _ k
+      (λ e.
+      let w = word-same xs ys l at 6 k refl in
+      let a = amount-same xs ys l 5 at e 0 (omega arith) in
+      let b = amount-same xs ys l 5 at e 1 (omega arith) in
+      let c = amount-same xs ys l 5 at e 2 (omega arith) in
+      let d = amount-same xs ys l 5 at e 3 (omega arith) in
+      let f = amount-same xs ys l 5 at e 4 (omega arith) in
+      (rw (w, a, b, c, d, f), λ z next. eq-turns _ _ (rw (run-same (coverTurn xs) (coverTurn ys) cover-same (suc (length xs)) next, l .long, w, a, b, c, d, f))))
+
+  trade-same : (at : ℕ) → kindOf (word xs at) ≡ 5 → Turns (λ (a b : Member). a ≡ b) (tradeTurn xs at) (tradeTurn ys at)
+  unfolding tradeTurn tradeAt
+  trade-same at k =
+      record-turns xs ys l (λ (a b : Member). a ≡ b) 5 at _ _ _ _ k
+      (λ e.
+      let w = word-same xs ys l at 5 k refl in
+      let a = amount-same xs ys l 4 at e 0 (omega arith) in
+      let b = amount-same xs ys l 4 at e 1 (omega arith) in
+      let c = amount-same xs ys l 4 at e 2 (omega arith) in
+      let d = amount-same xs ys l 4 at e 3 (omega arith) in
+      (rw (w, a, b, c, d), λ z next. Turns.somes (rw (w, a, b, c, d))))
+
+  pub member-same : (at : ℕ) → memberTurn xs at ≡ memberTurn ys at
+  unfolding memberTurn
+  member-same at =
+      turns-eq _ _ (stands-turns xs ys l (λ (a b : Member). a ≡ b) 5 at _ _ _ _ (trade-same at)
+      (stands-turns xs ys l (λ (a b : Member). a ≡ b) 6 at _ _ over over (written-same at) Turns.overs))
+
+  -- ---- the head and the protections
+
+  pub head-faulty-same : headFaulty xs ≡ headFaulty ys
+  unfolding headFaulty
+  head-faulty-same = rw (← l .long, ← kind-same (l .at 0), ← kind-same (l .at 1)) (go (eqb (kindOf (word xs 0)) 1) refl (eqb (kindOf (word xs 1)) 0) refl)
+    where
+      go : (a : Bool) → eqb (kindOf (word xs 0)) 1 ≡ a → (b : Bool) → eqb (kindOf (word xs 1)) 0 ≡ b
+          → ltb (length xs) firstRecord || not a || ltb 4096 (payloadOf (word xs 0)) || not b || minusZero (word xs 1) ≡ ltb (length xs) firstRecord || not a || ltb 4096 (payloadOf (word ys 0)) || not b || minusZero (word ys 1)
+      go true e true f = rw (word-same xs ys l 0 1 (eqb-true _ 1 e) refl, word-same xs ys l 1 0 (eqb-true _ 0 f) refl)
+      go true e false f = simp (word-same xs ys l 0 1 (eqb-true _ 1 e) refl, or-true)
+      go false e b f = simp or-true
+
+  protection-same : (at : ℕ) → protectionTurn xs at ≡ protectionTurn ys at
+  unfolding protectionTurn protectionAt
+  protection-same at =
+      rw (← l .long, ← kind-same (l .at at))
+      (turns-eq _ _ (choices Same (leb (length xs) at) _ _ _ _ (λ e. Turns.bads)
+      (λ e. choices Same (not (eqb (kindOf (word xs at)) 3)) _ _ _ _ (λ f. Turns.bads)
+      (λ f.
+      let k = eqb-true (kindOf (word xs at)) 3 (not-false _ f) in
+      record-turns xs ys l Same 3 at _ _ _ _ k
+      (λ g.
+      let w = word-same xs ys l at 3 k refl in
+      let a = amount-same xs ys l 3 at g 0 (omega arith) in
+      let b = amount-same xs ys l 3 at g 1 (omega arith) in
+      let c = amount-same xs ys l 3 at g 2 (omega arith) in
+      (rw (w, a, b, c), λ z next. Turns.somes (rw (w, a, b, c))))))))
+    where
+      Same : Protection → Protection → Type 0
+      Same a b = a ≡ b
+
+  -- a head that is not faulty is the same
+  pub head-same : headFaulty xs ≡ false → headOf xs ≡ headOf ys
+  unfolding headFaulty headOf
+  head-same e =
+      let short = ltb (length xs) firstRecord in
+      let other = not (eqb (kindOf (word xs 0)) 1) in
+      let many = ltb 4096 (payloadOf (word xs 0)) in
+      let none = not (eqb (kindOf (word xs 1)) 0) in
+      let d = or-left (short || other || many || none) (minusZero (word xs 1)) e in
+      let b = or-left (short || other) many (or-left (short || other || many) none d) in
+      let first = eqb-true (kindOf (word xs 0)) 1 (not-false _ (or-right short other b)) in
+      let second = eqb-true (kindOf (word xs 1)) 0 (not-false _ (or-right (short || other || many) none d)) in
+      rw (word-same xs ys l 0 1 first refl, word-same xs ys l 1 0 second refl)
+
+  pub protections-same : headFaulty xs ≡ false → protectionsOf xs ≡ protectionsOf ys
+  unfolding protectionsOf
+  protections-same e = rw (← head-same e) (run-same (protectionTurn xs) (protectionTurn ys) protection-same (headOf xs .protections) firstRecord)

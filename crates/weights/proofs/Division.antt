@@ -1,0 +1,40 @@
+-- Division, as one step of `share` needs it: Q and R are the quotient and the remainder of the share of x / 2. Assumes nothing.
+use mathlib.Core.Path.{_≡_, ap, sym, _∙_}
+use Prim.Native.Nat.{ℕ, _+_, _*_, _/_, _%_, _≤_, _<_}
+use native.Mathlib.Nat.{div-add-mod', mod-lt, mul-le-mul-left, mul-le-mul-right, div-le-of-le-mul}
+use native.Mathlib.Omega.{arith}
+use lib.Arith.{digits-div, digits-mod}
+
+-- a share is at most the whole
+pub share-le : (x p q : ℕ) → p ≤ q → x * p / q ≤ x
+share-le x p q h = div-le-of-le-mul q (omega (arith, mul-le-mul-left x h))
+
+-- the part of an odd x is counted at most once
+pub part-le : (x p : ℕ) → x % 2 * p ≤ p
+part-le x p =
+    let h : x % 2 ≤ 1 = omega arith in
+    omega (arith, mul-le-mul-right p h)
+
+-- one step: what it computes from Q and R is the quotient and the remainder of the share of x
+pub record Step (x p q Q R : ℕ) : Type 0 where
+  pub rest : R < q
+  pub quotient : 2 * Q + (2 * R + x % 2 * p) / q ≡ x * p / q
+  pub remainder : (2 * R + x % 2 * p) % q ≡ x * p % q
+
+module _ (x p q Q R : ℕ) (0<q : 0 < q) (eQ : Q ≡ x / 2 * p / q) (eR : R ≡ x / 2 * p % q) where
+  half : Q * q + R ≡ x / 2 * p
+  half = ap (λ (k : ℕ). k * q + R) eQ ∙ ap (λ (k : ℕ). x / 2 * p / q * q + k) eR ∙ div-add-mod' (x / 2 * p) q
+
+  -- the products are unknowns to `omega`: x * p, x / 2 * p, x % 2 * p, Q * q and the new quotient times q
+  whole : x * p ≡ (2 * Q + (2 * R + x % 2 * p) / q) * q + (2 * R + x % 2 * p) % q
+  whole =
+      let odd : x ≡ x / 2 * 2 + x % 2 = omega arith in
+      omega (arith, half, ap (λ (k : ℕ). k * p) odd, div-add-mod' (2 * R + x % 2 * p) q)
+
+  pub step : Step x p q Q R
+  step =
+      record {
+        rest = omega (arith, mod-lt (x / 2 * p) 0<q);
+        quotient = sym (ap (λ (k : ℕ). k / q) whole ∙ digits-div _ (mod-lt _ 0<q));
+        remainder = sym (ap (λ (k : ℕ). k % q) whole ∙ digits-mod _ (mod-lt _ 0<q));
+      }

@@ -1,0 +1,33 @@
+// The conversion figures of off-balance items (document 01, "Factors").
+ghost use mathlib.Core.Path.{_≡_};
+ghost use Rattle.rules.specs.Factors.{conversionAt, conversionOf};
+
+// commitment to one year, longer, cancellable, credit substitute, forward purchase, transaction contingency, note facility,
+// trade letter, securitisation, eligible liquidity, servicer advance
+const CONVERSIONS: [u32; 11] = [200, 500, 100, 1000, 1000, 500, 500, 200, 1000, 500, 100];
+
+// The figure of a class, per thousand; 0 for a class beyond the table.
+pub fn conversion_at(class: u32) -> u32
+    ensures { λ r. ⌜ r ≡ conversionAt class ⌝ }
+{
+    let place = class as usize;
+    if place < 11 {
+        return CONVERSIONS[place];
+    }
+    0
+}
+
+// "With bits 4-7 the lower of two applies": `committed` is 0, or one more than the class of the item committed to.
+pub fn conversion(class: u32, committed: u32) -> u32
+    ensures { λ r. ⌜ r ≡ conversionOf class committed ⌝ }
+{
+    let own = conversion_at(class);
+    if committed == 0 {
+        return own;
+    }
+    let other = conversion_at(committed - 1);
+    if own <= other {
+        return own;
+    }
+    other
+}

@@ -1,0 +1,89 @@
+// The add-on factors of trades, per thousand of the notional (document 01, "Factors").
+use rules::Bands;
+ghost use mathlib.Core.Path.{_≡_};
+ghost use Prim.Native.Nat.{max};
+ghost use Rattle.rules.specs.Factors.{bandOf, creditFactor, factorAt, marketFactor, tradeFactor};
+
+// A row for each class: rates, currency and gold, equity, other precious metals, other commodities; a column for each band.
+const FACTORS: [[u32; 3]; 5] = [
+    [0, 5, 15],
+    [10, 50, 75],
+    [60, 80, 100],
+    [70, 70, 80],
+    [100, 120, 150],
+];
+
+// "for 365 days or less, up to 1,825, beyond"
+pub fn band(bands: Bands, days: u32) -> usize
+    ensures { λ r. ⌜ r ≡ bandOf bands days ⌝ }
+{
+    if days <= bands.short {
+        return 0;
+    }
+    if days <= bands.medium {
+        return 1;
+    }
+    2
+}
+
+// The figure of a class and a band; 0 beyond the table, as for class 6, floating against floating.
+pub fn factor_at(class: u32, band: usize) -> u32
+    ensures { λ r. ⌜ r ≡ factorAt class band ⌝ }
+{
+    let row = class as usize;
+    if row >= 5 {
+        return 0;
+    }
+    if band >= 3 {
+        return 0;
+    }
+    FACTORS[row][band]
+}
+
+// "Credit: 50 qualifying, 100 not"
+pub fn credit_factor(qualifying: bool) -> u32
+    ensures { λ r. ⌜ r ≡ creditFactor qualifying ⌝ }
+{
+    if qualifying { 50 } else { 100 }
+}
+
+// "With bit 11 the reset days choose the band; a rates trade with more than 365 days remaining then has at least 5": the
+// remaining days decide whether the 5 applies, not the reset days.
+pub fn market_factor(bands: Bands, class: u32, resets: bool, days: u32, reset_days: u32) -> u32
+    ensures { λ r. ⌜ r ≡ marketFactor bands class resets days «reset_days» ⌝ }
+{
+    if !resets {
+        return factor_at(class, band(bands, days));
+    }
+    let figure = factor_at(class, band(bands, reset_days));
+    if class > 0 {
+        return figure;
+    }
+    if days > bands.short {
+        return larger(5, figure);
+    }
+    figure
+}
+
+fn larger(a: u32, b: u32) -> u32
+    ensures { λ r. ⌜ r ≡ max a b ⌝ }
+{
+    if a < b { b } else { a }
+}
+
+// The factor of a trade of any class; class 5 is bought credit.
+pub fn trade_factor(
+    bands: Bands,
+    class: u32,
+    resets: bool,
+    qualifying: bool,
+    days: u32,
+    reset_days: u32,
+) -> u32
+    ensures { λ r. ⌜ r ≡ tradeFactor bands class resets qualifying days «reset_days» ⌝ }
+{
+    if class == 5 {
+        return credit_factor(qualifying);
+    }
+    market_factor(bands, class, resets, days, reset_days)
+}

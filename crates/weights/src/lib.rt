@@ -1,0 +1,6 @@
+// The figures that weigh a record (document 01, "Factors" and "Weighing a set"): add-on factors, conversion figures, and the
+// weighted add-on of a set.
+pub mod addon;
+pub mod conversion;
+pub mod factors;
+mod share;

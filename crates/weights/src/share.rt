@@ -1,0 +1,29 @@
+// "the share of a number is twice the share of its half, remainder carried, plus one part where it is odd": no product here is
+// wider than 64 bits.
+ghost use mathlib.Core.Path.{_≡_};
+ghost use Prim.Native.Nat.{_*_, _/_, _%_, _^_, _≤_, _<_};
+
+// x * p / q and x * p % q
+pub struct Parts {
+    pub quotient: u64,
+    pub remainder: u64,
+}
+
+// One step has no branch: the part of an odd x is counted 0 or 1 times.
+pub fn share(x: u64, p: u64, q: u64) -> Parts
+    requires { ⌜ (p ≤ q) × ((0 < q) × (q < 2 ^ 62)) ⌝ }
+    ensures { λ r. ⌜ (r .quotient ≡ x * p / q) × (r .remainder ≡ x * p % q) ⌝ }
+{
+    if x == 0 {
+        return Parts {
+            quotient: 0,
+            remainder: 0,
+        };
+    }
+    let half = share(x / 2, p, q);
+    let carried = 2 * half.remainder + x % 2 * p;
+    Parts {
+        quotient: 2 * half.quotient + carried / q,
+        remainder: carried % q,
+    }
+}
