@@ -5,3 +5,4 @@ pub mod Ceil
 pub mod Weighted
 pub mod Ratios
 pub mod RatioCases
+pub mod Along

@@ -5,6 +5,7 @@ use mathlib.Core.Bool.{not, _||_}
 use mathlib.Core.List.{List, [], _∷_, _++_}
 use lib.Dec.{eqb, leb, ltb}
 use lib.ListN.{length, getD, set}
+use Rattle.rules.specs.declared.Draw.{Draw}
 use Rattle.rules.specs.declared.Entry.{Entry}
 use Rattle.rules.specs.Book.{Protection, Cover, WrittenCredit, Member, trade, written, DerivativeSet, Item, asset, derivatives, financing, offBalance, Placed}
 use Rattle.rules.specs.Faults.{cause}
@@ -21,17 +22,7 @@ available p = p .notional - p .gain
 abbrev pub entryOf : Protection → Entry
 entryOf p = record { entity = p .entity; rank = p .rank; days = p .days; left = available p }
 
--- a cover, with its place in the book, the written credit's entity, rank and days, and what is left of its notional minus loss
--- after the covers before
-pub record Draw : Type 0 where
-  pub at : ℕ
-  pub entity : ℕ
-  pub rank : ℕ
-  pub days : ℕ
-  pub room : ℕ
-  pub protection : ℕ
-  pub amount : ℕ
-
+-- the covers of a written credit as draws: each with what the covers before leave of its notional minus loss
 unfoldable pub drawsFrom : (begin room : ℕ) → WrittenCredit → List Cover → List Draw
 drawsFrom begin room w [] = []
 drawsFrom begin room w (c ∷ cs) =
@@ -57,13 +48,15 @@ drawsOver (p ∷ ps) = drawsIn (p .begin) (p .item) ++ drawsOver ps
 
 -- "same entity, rank at least the written one's, days at least its days, amount within what is left of the protection and of
 -- notional minus loss"
-unfoldable pub drawFault : List Entry → Draw → ℕ
-drawFault entries d =
-    let e = getD entries (d .protection) blank in
-    cause 11 (leb (length entries) (d .protection))
-    (cause 12 (not (eqb (e .entity) (d .entity)) || ltb (e .rank) (d .rank) || ltb (e .days) (d .days))
+unfoldable pub unfitFor : Entry → Draw → ℕ
+unfitFor e d =
+    cause 12 (not (eqb (e .entity) (d .entity)) || ltb (e .rank) (d .rank) || ltb (e .days) (d .days))
     (cause 13 (ltb (e .left) (d .amount) || ltb (d .room) (d .amount))
-    0))
+    0)
+
+-- "cover's place not below b": b entries hold the protections
+unfoldable pub drawFault : List Entry → Draw → ℕ
+drawFault entries d = cause 11 (leb (length entries) (d .protection)) (unfitFor (getD entries (d .protection) blank) d)
 
 -- the entries after a draw
 abbrev pub drawnFrom : Entry → ℕ → Entry

@@ -9,6 +9,18 @@ pub struct Entry {
     pub left: u32,
 }
 
+// A cover that is to be drawn from an entry of the register: where its record stands in the book, the entity, rank and days of the
+// written credit, what is left of that credit's notional minus loss, the place of the protection in the register, and the amount.
+pub struct Draw {
+    pub at: usize,
+    pub entity: u32,
+    pub rank: u32,
+    pub days: u32,
+    pub room: u32,
+    pub protection: u32,
+    pub amount: u32,
+}
+
 // The last day of the first and of the second band of the factors.
 pub struct Bands {
     pub short: u32,

@@ -1,1 +1,3 @@
+pub mod Copying
 pub mod Reading
+pub mod Sections

@@ -1,3 +1,6 @@
-// Row 22 of the template and the verdict (document 01, "Rows").
+// The template of document 01, "Rows": the twenty-two rows of the sums and Tier 1, and the verdict.
+pub mod exposure;
 pub mod ratio;
+pub mod rows;
 mod signed;
+mod units;

@@ -1,6 +1,7 @@
 // Row 22 and the verdict, of Tier 1 as a gain less a loss, in units, and of the exposure, row 21, in thousandths.
 use crate::signed::below_zero;
 use crate::signed::whole;
+use crate::units::thousandths;
 ghost use mathlib.Core.Path.{_≡_};
 ghost use Prim.Native.Nat.{_*_, _^_, _<_};
 ghost use lib.IntN.{pos};
@@ -39,13 +40,6 @@ pub fn verdict(gain: u32, loss: u32, exposure: u64) -> u32
         return 0;
     }
     1
-}
-
-// Units, in thousandths.
-fn thousandths(x: u32) -> u64
-    ensures { λ r. ⌜ r ≡ 1000 * x ⌝ }
-{
-    1000 * (x as u64)
 }
 
 // a / b rounded up

@@ -8,11 +8,12 @@ use native.Mathlib.Omega.{arith}
 use borrow.Author.Tests.{ltb-false, eqb-true, ne-eqb}
 use lib.Dec.{eqb, ltb}
 use lib.ListN.{length}
+use Rattle.rules.specs.declared.Draw.{Draw}
 use Rattle.rules.specs.declared.Entry.{Entry}
 use Rattle.rules.specs.Book.{Placed}
 use Rattle.rules.specs.Run.{Run}
 use Rattle.rules.specs.Read.{headFaulty, headOf, protectionsOf, itemsOf}
-use Rattle.rules.specs.Register.{entryOf, Draw, drawsOver, drawFault, drawn, Settled, unfit, settled, ifFit, settle}
+use Rattle.rules.specs.Register.{entryOf, drawsOver, drawFault, drawn, Settled, unfit, settled, ifFit, settle}
 use Rattle.rules.specs.Filing.{Outcome, early, refused, accepted, judged, recordsOutcome, admission, outcomeOf}
 
 pub record Accepted (ws : List ℕ) (rows entries : ℕ) (items : List Placed) (left : List Entry) : Type 0 where

@@ -8,13 +8,14 @@ use native.Mathlib.Omega.{arith}
 use borrow.Author.Tests.{eqb-true}
 use lib.Dec.{eqb, leb}
 use lib.ListN.{length, getD, List·getD-map}
+use Rattle.rules.specs.declared.Draw.{Draw}
 use Rattle.rules.specs.declared.Entry.{Entry}
 use Rattle.rules.specs.Word.{word, kindOf, amountsIn}
 use Rattle.rules.specs.Book.{Protection, Cover, WrittenCredit, Member, trade, written, Item, asset, derivatives, financing, offBalance, Placed, total}
 use Rattle.rules.specs.Run.{Turn, over, bad, some, Run, ended, withOne, thenRun, runFrom, sound}
 use Rattle.rules.specs.Faults.{protectionFault}
 use Rattle.rules.specs.Read.{firstRecord, headOf, lacks, recordThen, protectionAt, protectionTurn, itemTurn, protectionsOf, itemsOf}
-use Rattle.rules.specs.Register.{blank, available, entryOf, Draw, drawsFrom, drawsOf, drawsIn, drawsOver}
+use Rattle.rules.specs.Register.{blank, available, entryOf, drawsFrom, drawsOf, drawsIn, drawsOver}
 use Rattle.rules.specs.Rows.{sumOver}
 use Rattle.rules.specs.Filing.{outcomeOf, accepted}
 use Rattle.rules.proofs.Lists.{total-append}
@@ -52,7 +53,7 @@ module _ (i : ℕ) where
 -- ---- where the reading ends without a fault, there are just b protections
 
 -- a turn that always has a record, or a fault whose number is not 0
-data Filled {A : Type 0} : Turn A → Type 0 where
+pub data Filled {A : Type 0} : Turn A → Type 0 where
   bads : {number place : ℕ} → Filled (bad (suc number) place)
   somes : {a : A} {number place : ℕ} → Filled (some a number place)
 
@@ -67,7 +68,7 @@ filled-run {A} turn h (suc k) at e = go (turn at) (h at) (λ next. filled-run tu
     go t (somes {number = zero} {place}) r q = ap suc (r place q)
     go t (somes {number = suc n}) r q = let z : ⊥ = omega arith in absurd z
 
-protection-filled : (ws : List ℕ) (at : ℕ) → Filled (protectionTurn ws at)
+pub protection-filled : (ws : List ℕ) (at : ℕ) → Filled (protectionTurn ws at)
 unfolding protectionTurn recordThen
 protection-filled ws at = if (leb (length ws) at) bads (if (not (eqb (kindOf (word ws at)) 3)) bads (if (lacks (amountsIn (word ws at)) ws at) bads (sounds (protectionFault (word ws at) (word ws (at + 1)) (word ws (at + 2)) (word ws (at + 3))))))
   where

@@ -12,7 +12,7 @@ use Rattle.rules.specs.Weigh.{sumBelow, onDay, nettedOn, lastDay, cashNetted}
 
 -- ---- sums below a number
 
-below-le : (n : ℕ) (f g : ℕ → ℕ) → ((d : ℕ) → f d ≤ g d) → sumBelow n f ≤ sumBelow n g
+pub below-le : (n : ℕ) (f g : ℕ → ℕ) → ((d : ℕ) → f d ≤ g d) → sumBelow n f ≤ sumBelow n g
 unfolding sumBelow
 below-le zero f g h = omega arith
 below-le (suc n) f g h = omega (arith, h n, below-le n f g h)

@@ -102,10 +102,10 @@ fine-item-turn bands ws at h =
 
 -- ---- protections add nothing, and end within the book
 
-nothing : Protection → ℕ
+pub nothing : Protection → ℕ
 nothing p = 0
 
-fine-protection : (ws : List ℕ) (at : ℕ) → at ≤ length ws → FineTurn (length ws) perWord nothing at (protectionTurn ws at)
+pub fine-protection : (ws : List ℕ) (at : ℕ) → at ≤ length ws → FineTurn (length ws) perWord nothing at (protectionTurn ws at)
 unfolding protectionTurn nothing
 fine-protection ws at h =
     fine-if perWord nothing ws at (leb (length ws) at) (bad 14 (length ws)) _ (λ _. (omega arith, omega arith))

@@ -9,10 +9,10 @@ use Rattle.rules.specs.Weighted.{weightedOf}
 use Rattle.rules.specs.Weigh.{tradeAddOn, writtenAddOn, tallyOf, replacementOf, weightedIn, sumBelow, cashNetted, excessOf}
 use Rattle.rules.specs.Ratio.{ratioOf, verdictOf}
 use Rattle.rules.specs.Rows.{assetRows, sumsOf, rowsOf}
-use Rattle.rules.specs.Register.{drawsFrom, drawsOf, drawsOver, drawFault, settle}
+use Rattle.rules.specs.Register.{drawsFrom, drawsOf, drawsOver, unfitFor, drawFault, settle}
 use Rattle.rules.specs.Filing.{recordsOutcome, admission, outcomeOf, filing}
 use Rattle.theorems.specs.Samples.{samples, AllSamples}
 
 pub all-samples : AllSamples
-unfolding samples gainOf lossOf runFrom cause protectionFault assetFault derivativeSetFault tradeFault writtenFault coverFault financingSetFault financingTradeFault offBalanceFault headFaulty headOf lacks recordThen protectionAt protectionTurn assetAt assetTurn coverAt coverTurn writtenAt writtenTurn tradeAt tradeTurn memberTurn derivativeSetAt derivativeSetTurn financingTradeAt financingTradeTurn financingMemberTurn financingSetAt financingSetTurn offBalanceAt offBalanceTurn itemOf endFault itemTurn protectionsOf itemsOf marketFactor tradeFactor conversionOf weightedOf tradeAddOn writtenAddOn tallyOf replacementOf weightedIn sumBelow cashNetted excessOf ratioOf verdictOf assetRows sumsOf rowsOf drawsFrom drawsOf drawsOver drawFault settle recordsOutcome admission outcomeOf filing
+unfolding samples gainOf lossOf runFrom cause protectionFault assetFault derivativeSetFault tradeFault writtenFault coverFault financingSetFault financingTradeFault offBalanceFault headFaulty headOf lacks recordThen protectionAt protectionTurn assetAt assetTurn coverAt coverTurn writtenAt writtenTurn tradeAt tradeTurn memberTurn derivativeSetAt derivativeSetTurn financingTradeAt financingTradeTurn financingMemberTurn financingSetAt financingSetTurn offBalanceAt offBalanceTurn itemOf endFault itemTurn protectionsOf itemsOf marketFactor tradeFactor conversionOf weightedOf tradeAddOn writtenAddOn tallyOf replacementOf weightedIn sumBelow cashNetted excessOf ratioOf verdictOf assetRows sumsOf rowsOf drawsFrom drawsOf drawsOver unfitFor drawFault settle recordsOutcome admission outcomeOf filing
 all-samples = record { accepted = refl; given-as-listed = refl }

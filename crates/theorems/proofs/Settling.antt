@@ -10,11 +10,12 @@ use borrow.Author.Tests.{ltb-false, leb-false, eq-eqb, ne-eqb}
 use lib.Dec.{eqb, leb, ltb}
 use lib.ListN.{length, getD, set, length-set}
 use lib.Seq.{getD-set-same, getD-set-other}
+use Rattle.rules.specs.declared.Draw.{Draw}
 use Rattle.rules.specs.declared.Entry.{Entry}
 use Rattle.rules.specs.Book.{Cover, WrittenCredit, Member, trade, written, DerivativeSet, Item, asset, derivatives, financing, offBalance, Placed, total}
 use Rattle.rules.specs.Faults.{cause}
 use Rattle.rules.specs.Weigh.{coveredOf, writtenIn, coversIn}
-use Rattle.rules.specs.Register.{blank, Draw, drawsFrom, drawsOf, drawsIn, drawsOver, drawFault, drawnFrom, drawn, Settled, unfit, settled, ifFit, settle}
+use Rattle.rules.specs.Register.{blank, drawsFrom, drawsOf, drawsIn, drawsOver, unfitFor, drawFault, drawnFrom, drawn, Settled, unfit, settled, ifFit, settle}
 use Rattle.rules.proofs.Lists.{Every, or-left, or-right, total-append}
 use Rattle.rules.proofs.Lists
 use Rattle.theorems.proofs.Valid.{cause-none}
@@ -27,7 +28,7 @@ pub record Fit (entries : List Entry) (d : Draw) : Type 0 where
   pub within : d .amount ≤ d .room
 
 pub draw-fits : (entries : List Entry) (d : Draw) → drawFault entries d ≡ 0 → Fit entries d
-unfolding drawFault
+unfolding drawFault unfitFor
 draw-fits entries d e =
     let a = cause-none 10 _ _ e in
     let b = cause-none 11 _ _ (a .1) in

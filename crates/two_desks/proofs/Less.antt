@@ -14,6 +14,7 @@ use Rattle.rules.specs.Rows.{AssetRows, assetRows, tallyIn, keptWeighted, sumOv
 use Rattle.rules.proofs.Lists.{Pairs, pairs-total}
 use Rattle.rules.proofs.Lists
 use Rattle.rules.proofs.Weighted.{at-most}
+use Rattle.theorems.proofs.Financing.{below-le}
 use Rattle.theorems.specs.Exposure.{exposureOf, derivativeExposure, financingExposure}
 use Rattle.two_desks.proofs.Related.{Kept, MoreAsset, MoreSet, MoreTrade, MoreFinancing, MoreItem, MorePlaced}
 use Rattle.two_desks.proofs.Related
@@ -117,12 +118,6 @@ module _ (s t : DerivativeSet) (m : MoreSet s t) where
 
 -- ---- financing sets
 
--- sums over the same days
-sum-below-more : (n : ℕ) (f g : ℕ → ℕ) → ((d : ℕ) → f d ≤ g d) → sumBelow n f ≤ sumBelow n g
-unfolding sumBelow
-sum-below-more zero f g h = omega arith
-sum-below-more (suc n) f g h = omega (arith, h n, sum-below-more n f g h)
-
 min-more : (a b c d : ℕ) → a ≤ c → b ≤ d → min a b ≤ min c d
 min-more a b c d h k = omega arith
 
@@ -148,7 +143,7 @@ cash-more : {xs ys : List FinancingTrade} → Pairs MoreTrade xs ys → cashNett
 unfolding cashNetted
 cash-more {xs} {ys} p =
     rw (← last-same p)
-    (sum-below-more (suc (lastDay xs)) (nettedOn xs) (nettedOn ys)
+    (below-le (suc (lastDay xs)) (nettedOn xs) (nettedOn ys)
     (λ d. min-more _ _ _ _
     (total-on-day-more (λ (t : FinancingTrade). t .receivable) (λ s t m. m .receivable) d p)
     (total-on-day-more (λ (t : FinancingTrade). t .payable) (λ s t m. m .payable) d p)))

@@ -5,11 +5,12 @@ use mathlib.Core.Bool.{Bool, true, false, cond}
 use mathlib.Core.List.{List, [], _∷_, _++_, map}
 use lib.Dec.{eqb, ltb}
 use lib.ListN.{length}
+use Rattle.rules.specs.declared.Draw.{Draw}
 use Rattle.rules.specs.declared.Entry.{Entry}
 use Rattle.rules.specs.Book.{Item, asset, derivatives, financing, offBalance, Placed}
 use Rattle.rules.specs.Run.{Run}
 use Rattle.rules.specs.Read.{headFaulty, headOf, protectionsOf, itemsOf}
-use Rattle.rules.specs.Register.{entryOf, Draw, drawsOf, drawsIn, drawsOver, Settled, unfit, settled, settle}
+use Rattle.rules.specs.Register.{entryOf, drawsOf, drawsIn, drawsOver, Settled, unfit, settled, settle}
 use Rattle.rules.specs.Filing.{Outcome, early, refused, accepted, judged, recordsOutcome, admission, outcomeOf}
 use Rattle.rules.specs.TwoDesks.{MoreRecognised}
 use Rattle.rules.proofs.Lists.{Pairs}

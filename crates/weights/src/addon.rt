@@ -1,5 +1,6 @@
 // The weighted add-on of a set (document 01, "Weighing a set").
 use crate::share::share;
+use words::numbers::less;
 ghost use mathlib.Core.Path.{_≡_};
 ghost use Prim.Native.Nat.{_-_, _^_, _<_};
 ghost use Rattle.rules.specs.Weighted.{weightedOf};
@@ -19,11 +20,4 @@ pub fn weighted(x: u64, gross: u64, losses: u64) -> u64
         return s.quotient;
     }
     s.quotient + 1
-}
-
-// a less b, not below 0
-fn less(a: u64, b: u64) -> u64
-    ensures { λ r. ⌜ r ≡ a - b ⌝ }
-{
-    if a < b { 0 } else { a - b }
 }

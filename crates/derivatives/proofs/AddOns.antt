@@ -1,0 +1,26 @@
+-- How large the products of an add-on are, and what stays in of it. Assumes nothing.
+use Prim.Native.Nat.{ℕ, _*_, _^_, _≤_, _<_}
+use mathlib.Core.Path.{_≡_}
+use mathlib.Core.Bool.{Bool, true, false, cond}
+use native.Mathlib.Omega.{arith}
+use native.Mathlib.Nat.{mul-le-mul}
+use lib.Dec.{eqb}
+use Rattle.rules.specs.Weigh.{keptIn}
+
+-- 38,250 is 150 times 255
+pub two-factors : (x y : ℕ) → x ≤ 150 → y < 2 ^ 8 → x * y ≤ 38250
+two-factors x y f p = mul-le-mul {n₁ = x} {m₁ = y} {n₂ = 150} {m₂ = 255} f (omega arith)
+
+pub three-factors : (x y z : ℕ) → x ≤ 150 → y < 2 ^ 8 → z < 2 ^ 27 → x * y * z ≤ 38250 * 2 ^ 27
+three-factors x y z f p n = mul-le-mul {n₁ = x * y} {m₁ = z} {n₂ = 38250} {m₂ = 2 ^ 27} (two-factors x y f p) (omega arith)
+
+pub credit-product : (x y : ℕ) → x ≤ 100 → y < 2 ^ 27 → x * y ≤ 100 * 2 ^ 27
+credit-product x y f n = mul-le-mul {n₁ = x} {m₁ = y} {n₂ = 100} {m₂ = 2 ^ 27} f (omega arith)
+
+-- never more than there was
+pub kept-under : (kept addOn covered notional : ℕ) → kept ≡ keptIn addOn covered notional → kept ≤ addOn
+kept-under kept addOn covered notional e = rw e (go (eqb covered 0))
+  where
+    go : (b : Bool) → cond b 0 addOn ≤ addOn
+    go true = omega arith
+    go false = omega arith

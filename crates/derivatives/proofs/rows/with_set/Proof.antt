@@ -1,0 +1,148 @@
+use Rattle.derivatives.proofs.SetRows.{marked-under, replaced-under, weighted-under, weighted-less, replaced-is, weighted-is, with-set-is}
+use mathlib.Core.Path.{_∙_}
+use Prim.Native.Nat.{_+_, _*_}
+use native.Mathlib.Omega.{arith}
+use borrow.Author.Needs.{needs}
+use Rattle.derivatives.proofs.rows.with_set.Statement.{statement}
+use Rattle.derivatives.proofs.rows.with_set.Tie as tie
+
+bit-requires : tie.Need-bit-requires
+bit-requires c κs = search needs
+
+margin-counts-requires : tie.Need-margin-counts-requires
+margin-counts-requires c κs = search needs
+
+size-requires : tie.Need-size-requires
+size-requires c κs = search needs
+
+wide-requires : tie.Need-wide-requires
+wide-requires c κs = search needs
+
+marked-requires : tie.Need-marked-requires
+marked-requires c κs = search needs
+
+add-with-margin : tie.Need-add-with-margin
+add-with-margin c = omega (arith, (c .before .before .before .before .before .before .pre .1 .losses), marked-under (c .before .before .before .before .margin-counts .result) (c .before .before .wide .result) _ (c .before .marked .ensures), (c .before .before .wide .ensures), (c .before .before .before .size .ensures))
+
+replacement-requires : tie.Need-replacement-requires
+replacement-requires c κs = search needs
+
+mul-replaced : tie.Need-mul-replaced
+mul-replaced c = omega (arith, (c .before .before .before .before .before .before .before .pre .1 .weight), replaced-under _ _ _ _ (c .replacement .ensures))
+
+weighted-in-requires : tie.Need-weighted-in-requires
+weighted-in-requires c κs = search needs
+
+sub-weighted-in : tie.Need-sub-weighted-in
+sub-weighted-in c = search needs
+
+weighted-in-requires-2 : tie.Need-weighted-in-requires-2
+weighted-in-requires-2 c κs = search needs
+
+size-requires-2 : tie.Need-size-requires-2
+size-requires-2 c κs = search needs
+
+wide-requires-2 : tie.Need-wide-requires-2
+wide-requires-2 c κs = search needs
+
+mul-cash-paid : tie.Need-mul-cash-paid
+mul-cash-paid c = search needs
+
+add-s : tie.Need-add-s
+add-s c = search needs
+
+add-s-2 : tie.Need-add-s-2
+add-s-2 c = let p = c .before .before .before .before .before .before .before .before .before .before .before .before .before .before .pre in omega (arith, (p .0 .replacement), (p .1 .weight), replaced-under _ _ _ _ (c .before .before .before .before .before .before .before .replacement .ensures))
+
+add-s-3 : tie.Need-add-s-3
+add-s-3 c = let p = c .before .before .before .before .before .before .before .before .before .before .before .before .before .before .before .pre in omega (arith, (p .0 .weighted), (p .1 .weight), weighted-under _ _ _ _ _ (c .before .before .before .before .before .before .before .weighted-in .ensures))
+
+size-requires-3 : tie.Need-size-requires-3
+size-requires-3 c κs = search needs
+
+wide-requires-3 : tie.Need-wide-requires-3
+wide-requires-3 c κs = search needs
+
+mul-s : tie.Need-mul-s
+mul-s c = search needs
+
+add-s-4 : tie.Need-add-s-4
+add-s-4 c = omega (arith, (c .before .before .before .before .before .before .before .before .before .before .before .before .before .before .before .before .before .before .pre .0 .posted), (c .before .wide3 .ensures), (c .before .before .size3 .ensures))
+
+marked-requires-2 : tie.Need-marked-requires-2
+marked-requires-2 c κs = search needs
+
+add-s-5 : tie.Need-add-s-5
+add-s-5 c = omega (arith, (c .before .before .before .before .before .before .before .before .before .before .before .before .before .before .before .before .before .before .before .before .pre .0 .offset), marked-under (c .before .before .before .before .before .before .before .before .before .before .before .before .before .before .before .before .before .before .margin-counts .result) (1000 * (c .before .before .before .before .before .before .before .before .wide2 .result)) _ (c .before .marked2 .ensures), (c .before .before .before .before .before .before .before .before .wide2 .ensures), (c .before .before .before .before .before .before .before .before .before .size2 .ensures))
+
+bit-requires-2 : tie.Need-bit-requires-2
+bit-requires-2 c κs = search needs
+
+add-marked : tie.Need-add-marked
+add-marked c = omega (arith, (c .before .before .before .before .before .before .before .before .before .before .before .before .before .before .before .before .before .before .before .before .before .pre .1 .weight), replaced-under _ _ _ _ (c .before .before .before .before .before .before .before .before .before .before .before .before .before .before .replacement .ensures), weighted-under _ _ _ _ _ (c .before .before .before .before .before .before .before .before .before .before .before .weighted-in2 .ensures))
+
+marked-requires-3 : tie.Need-marked-requires-3
+marked-requires-3 c κs = search needs
+
+add-s-6 : tie.Need-add-s-6
+add-s-6 c = let p = c .before .before .before .before .before .before .before .before .before .before .before .before .before .before .before .before .before .before .before .before .before .before .before .pre in omega (arith, (p .0 .exempt), (p .1 .weight), replaced-under _ _ _ _ (c .before .before .before .before .before .before .before .before .before .before .before .before .before .before .before .before .replacement .ensures), weighted-under _ _ _ _ _ (c .before .before .before .before .before .before .before .before .before .before .before .before .before .weighted-in2 .ensures), marked-under (c .before .before .bit2 .result) (1000 * (c .before .before .before .before .before .before .before .before .before .before .before .before .before .before .before .before .replacement .result) + (c .before .before .before .before .before .before .before .before .before .before .before .before .before .weighted-in2 .result)) _ (c .before .marked3 .ensures))
+
+mul-s-2 : tie.Need-mul-s-2
+mul-s-2 c = omega (arith, (c .before .before .before .before .before .before .before .before .before .before .before .before .before .before .before .before .before .before .before .before .before .before .before .before .pre .1 .weight))
+
+add-s-7 : tie.Need-add-s-7
+add-s-7 c = let p = c .before .before .before .before .before .before .before .before .before .before .before .before .before .before .before .before .before .before .before .before .before .before .before .before .before .pre in omega (arith, (p .0 .written), (p .1 .weight))
+
+mul-s-3 : tie.Need-mul-s-3
+mul-s-3 c = omega (arith, (c .before .before .before .before .before .before .before .before .before .before .before .before .before .before .before .before .before .before .before .before .before .before .before .before .before .before .pre .1 .weight))
+
+sub-s : tie.Need-sub-s
+sub-s c = weighted-less _ _ _ _ _ _ _ (c .before .before .before .before .before .before .before .before .before .before .before .before .before .before .before .before .weighted-in2 .ensures) (c .before .before .before .before .before .before .before .before .before .before .before .before .before .before .before .before .before .before .weighted-in .ensures) (omega arith)
+
+add-s-8 : tie.Need-add-s-8
+add-s-8 c = omega (arith, (c .before .before .before .before .before .before .before .before .before .before .before .before .before .before .before .before .before .before .before .before .before .before .before .before .before .before .pre .1 .weight), weighted-under _ _ _ _ _ (c .before .before .before .before .before .before .before .before .before .before .before .before .before .before .before .before .before .before .weighted-in .ensures))
+
+add-s-9 : tie.Need-add-s-9
+add-s-9 c = let p = c .before .before .before .before .before .before .before .before .before .before .before .before .before .before .before .before .before .before .before .before .before .before .before .before .before .before .before .pre in omega (arith, (p .0 .covered), (p .1 .weight), weighted-under _ _ _ _ _ (c .before .before .before .before .before .before .before .before .before .before .before .before .before .before .before .before .before .before .before .weighted-in .ensures))
+
+returns : tie.Need-returns
+returns c = let a = c .before .before .before .before .before .before .before .before .before .before .before .before .before .before .before .before .before .before .before .before .before .before .before .before .before .before .before .args in with-set-is (a .w) (a .received) (a .paid) (a .posted) (a .t) (a .s) _ _ _ _ _ _ _ _ _ (c .before .before .before .before .before .before .before .before .before .before .before .before .before .before .before .before .before .before .before .before .before .before .before .before .before .margin-counts .ensures) (c .before .before .before .before .before .before .bit2 .ensures) ((c .before .before .before .before .before .before .before .before .before .before .before .before .before .before .before .wide2 .ensures) ∙ (c .before .before .before .before .before .before .before .before .before .before .before .before .before .before .before .before .size2 .ensures)) ((c .before .before .before .before .before .before .before .before .before .before .wide3 .ensures) ∙ (c .before .before .before .before .before .before .before .before .before .before .before .size3 .ensures)) (c .before .before .before .before .before .before .before .before .marked2 .ensures) (c .before .before .before .before .before .marked3 .ensures) (replaced-is (a .w) (a .received) (a .paid) (a .posted) (a .t) _ _ _ _ _ (c .before .before .before .before .before .before .before .before .before .before .before .before .before .before .before .before .before .before .before .before .before .before .before .before .before .before .bit .ensures) (c .before .before .before .before .before .before .before .before .before .before .before .before .before .before .before .before .before .before .before .before .before .before .before .before .before .margin-counts .ensures) ((c .before .before .before .before .before .before .before .before .before .before .before .before .before .before .before .before .before .before .before .before .before .before .before .wide .ensures) ∙ (c .before .before .before .before .before .before .before .before .before .before .before .before .before .before .before .before .before .before .before .before .before .before .before .before .size .ensures)) (c .before .before .before .before .before .before .before .before .before .before .before .before .before .before .before .before .before .before .before .before .before .before .marked .ensures) (c .before .before .before .before .before .before .before .before .before .before .before .before .before .before .before .before .before .before .before .before .replacement .ensures)) (weighted-is (a .w) (a .received) (a .paid) (a .posted) (a .t) _ _ _ (c .before .before .before .before .before .before .before .before .before .before .before .before .before .before .before .before .before .before .before .before .before .before .before .before .before .before .bit .ensures) (c .before .before .before .before .before .before .before .before .before .before .before .before .before .before .before .before .before .before .before .weighted-in .ensures)) (weighted-is (a .w) (a .received) (a .paid) (a .posted) (a .t) _ _ _ (c .before .before .before .before .before .before .before .before .before .before .before .before .before .before .before .before .before .before .before .before .before .before .before .before .before .before .bit .ensures) (c .before .before .before .before .before .before .before .before .before .before .before .before .before .before .before .before .before .weighted-in2 .ensures))
+
+pub with-set-spec : {M : Type 1} → statement M
+with-set-spec =
+    tie.close
+    (tie.spec
+    bit-requires
+    margin-counts-requires
+    size-requires
+    wide-requires
+    marked-requires
+    add-with-margin
+    replacement-requires
+    mul-replaced
+    weighted-in-requires
+    sub-weighted-in
+    weighted-in-requires-2
+    size-requires-2
+    wide-requires-2
+    mul-cash-paid
+    add-s
+    add-s-2
+    add-s-3
+    size-requires-3
+    wide-requires-3
+    mul-s
+    add-s-4
+    marked-requires-2
+    add-s-5
+    bit-requires-2
+    add-marked
+    marked-requires-3
+    add-s-6
+    mul-s-2
+    add-s-7
+    mul-s-3
+    sub-s
+    add-s-8
+    add-s-9
+    returns)

@@ -1,0 +1,146 @@
+-- What the reading gathers of a derivative set, as the code's tally has it, and what it puts into the sums of the book.
+-- Assumes nothing.
+use Prim.Native.Nat.{ℕ, _+_, _-_, _*_, _^_, _≤_}
+use mathlib.Core.Bool.{Bool, cond}
+use mathlib.Core.List.{List}
+use Rattle.rules.specs.declared.Bands.{Bands}
+use Rattle.rules.specs.declared.Sums.{Sums}
+use Rattle.rules.specs.Word.{fieldOf, bitOf, sizeOf, gainOf, lossOf}
+use Rattle.rules.specs.Book.{Trade, Cover, WrittenCredit, Member, DerivativeSet, total}
+use Rattle.rules.specs.Weighted.{weightedOf}
+use Rattle.rules.specs.Weigh.{writtenAddOn, keptIn, gainIn, lossIn, addOnIn, uncoveredIn, writtenIn, coversIn, marginOffsets, replacementOf, weightedIn}
+use Rattle.rules.specs.Weigh as weigh
+use Rattle.derivatives.specs.declared.tally.Tally.{Tally}
+
+-- ---- records by their words
+
+abbrev pub tradeOf : (w value notional days resetDays : ℕ) → Trade
+tradeOf w value notional days resetDays = record {
+  class = fieldOf 0 3 w;
+  payments = fieldOf 3 8 w;
+  resets = bitOf 11 w;
+  qualifying = bitOf 12 w;
+  gain = gainOf value;
+  loss = lossOf value;
+  notional = sizeOf notional;
+  days = sizeOf days;
+  resetDays = sizeOf resetDays;
+}
+
+abbrev pub writtenOf : (w value notional lossTaken days premiums : ℕ) → List Cover → WrittenCredit
+writtenOf w value notional lossTaken days premiums covers = record {
+  entity = fieldOf 0 16 w;
+  rank = fieldOf 16 4 w;
+  qualifying = bitOf 20 w;
+  totalReturn = bitOf 21 w;
+  closeOut = bitOf 22 w;
+  gain = gainOf value;
+  loss = lossOf value;
+  notional = sizeOf notional;
+  lossTaken = sizeOf lossTaken;
+  days = sizeOf days;
+  premiums = sizeOf premiums;
+  covers = covers;
+}
+
+abbrev pub setOf : (w received paid posted : ℕ) → List Member → DerivativeSet
+setOf w received paid posted members = record {
+  netting = bitOf 0 w;
+  notSegregated = bitOf 1 w;
+  daily = bitOf 2 w;
+  sameCurrency = bitOf 3 w;
+  fullAmount = bitOf 4 w;
+  exempt = bitOf 5 w;
+  received = sizeOf received;
+  paid = sizeOf paid;
+  posted = sizeOf posted;
+  members = members;
+}
+
+-- ---- the tally
+
+-- nothing gathered yet
+abbrev pub noTally : Tally
+noTally = record { gains = 0; losses = 0; gross = 0; uncovered = 0; written = 0; covered = 0 }
+
+-- with a member
+abbrev pub plusMember : Bands → Tally → Member → Tally
+plusMember bands t m = record {
+  gains = t .gains + gainIn m;
+  losses = t .losses + lossIn m;
+  gross = t .gross + addOnIn bands m;
+  uncovered = t .uncovered + uncoveredIn m;
+  written = t .written + writtenIn m;
+  covered = t .covered + coversIn m;
+}
+
+-- with a written credit of which so much is covered
+abbrev pub plusWritten : Tally → WrittenCredit → ℕ → Tally
+plusWritten t w covered = record {
+  gains = t .gains + w .gain;
+  losses = t .losses + w .loss;
+  gross = t .gross + writtenAddOn w;
+  uncovered = t .uncovered + (writtenAddOn w - keptIn (writtenAddOn w) covered (w .notional));
+  written = t .written + (w .notional - w .lossTaken);
+  covered = t .covered + covered;
+}
+
+-- with all of these members
+abbrev pub plusMembers : Bands → Tally → List Member → Tally
+plusMembers bands t members = record {
+  gains = t .gains + total gainIn members;
+  losses = t .losses + total lossIn members;
+  gross = t .gross + total (addOnIn bands) members;
+  uncovered = t .uncovered + total uncoveredIn members;
+  written = t .written + total writtenIn members;
+  covered = t .covered + total coversIn members;
+}
+
+-- the tally leaves room for one member more
+pub record RoomyTally (t : Tally) : Type 0 where
+  pub gains : t .gains ≤ 2 ^ 62
+  pub losses : t .losses ≤ 2 ^ 62
+  pub gross : t .gross ≤ 2 ^ 62
+  pub uncovered : t .uncovered ≤ 2 ^ 62
+  pub written : t .written ≤ 2 ^ 62
+  pub covered : t .covered ≤ 2 ^ 62
+
+-- ---- the rows of a set
+
+-- the four sums that replacement and weighted add-on go by
+abbrev pub tallyBy : Tally → weigh.Tally
+tallyBy t = record { gains = t .gains; losses = t .losses; addOn = t .gross; uncovered = t .uncovered }
+
+-- replacement, by the netting mark, the gains and what is taken off them
+unfoldable pub replacedBy : (netting : Bool) (gains off : ℕ) → ℕ
+replacedBy netting gains off = cond netting (gains - off) gains
+
+-- the weighted add-on of x, by the netting mark, the gains and the losses
+unfoldable pub weightedBy : (netting : Bool) (gains losses x : ℕ) → ℕ
+weightedBy netting gains losses x = cond netting (weightedOf x gains (gains - losses)) x
+
+-- the sums of the book with a set that has gathered this: rows 1 and 4 to 10
+abbrev pub plusSet : Sums → DerivativeSet → Tally → Sums
+plusSet s d t = record {
+  assets = s .assets + 1000 * d .paid;
+  deducted = s .deducted;
+  replacement = s .replacement + 1000 * replacementOf d (tallyBy t);
+  weighted = s .weighted + weightedIn d (tallyBy t) (t .gross);
+  posted = s .posted + 1000 * d .posted;
+  offset = s .offset + cond (marginOffsets d) (1000 * d .paid) 0;
+  exempt = s .exempt + cond (d .exempt) (1000 * replacementOf d (tallyBy t) + weightedIn d (tallyBy t) (t .gross - t .uncovered)) 0;
+  written = s .written + 1000 * t .written;
+  covered = s .covered + (1000 * t .covered + (weightedIn d (tallyBy t) (t .gross) - weightedIn d (tallyBy t) (t .gross - t .uncovered)));
+  financed = s .financed;
+  netted = s .netted;
+  principal = s .principal;
+  agent = s .agent;
+  committed = s .committed;
+  unconverted = s .unconverted;
+}
+
+-- so much as a set of a book can come to at most
+pub record Weighable (t : Tally) : Type 0 where
+  pub weight : 2000 * t .gains + 2 * t .gross + 1000 * t .written + 1000 * t .covered ≤ 2 ^ 61
+  pub losses : t .losses ≤ 2 ^ 61
+  pub uncovered : t .uncovered ≤ t .gross

@@ -1,0 +1,74 @@
+// What a derivative set puts into the rows 1 and 4 to 10.
+use crate::tally::Tally;
+use rules::Sums;
+use weights::addon::weighted;
+use words::amount::size;
+use words::numbers::less;
+use words::numbers::wide;
+use words::parts::bit;
+use words::parts::field;
+ghost use mathlib.Core.Path.{_≡_};
+ghost use mathlib.Core.Bool.{cond, _&&_};
+ghost use mathlib.Core.List.{[]};
+ghost use Prim.Native.Nat.{_^_, _<_};
+ghost use Rattle.rules.specs.Word.{bitOf};
+ghost use Rattle.records.specs.Step.{Roomy};
+ghost use Rattle.derivatives.specs.Gathered.{Weighable, plusSet, replacedBy, setOf, weightedBy};
+
+// "bits 0 to 4 are all 1": cash margin counts as payment.
+fn margin_counts(w: u32) -> bool
+    ensures { λ r. ⌜ r ≡ (bitOf 0 w && bitOf 1 w && bitOf 2 w && bitOf 3 w && bitOf 4 w) ⌝ }
+{
+    field(w, 0, 5) == 31
+}
+
+// An amount where a mark is set, else 0.
+fn marked(mark: bool, x: u64) -> u64
+    ensures { λ r. ⌜ r ≡ cond mark x 0 ⌝ }
+{
+    if mark { x } else { 0 }
+}
+
+// "Netting marked: replacement is N"; less what margin was received, where it counts. "Not marked: replacement G".
+fn replacement(netting: bool, gains: u64, taken_off: u64) -> u64
+    ensures { λ r. ⌜ r ≡ replacedBy netting gains «taken_off» ⌝ }
+{
+    if netting {
+        return less(gains, taken_off);
+    }
+    gains
+}
+
+// "Margin never enters N or G here. Not marked: ... add-on X".
+fn weighted_in(netting: bool, gains: u64, losses: u64, x: u64) -> u64
+    requires { ⌜ gains < 2 ^ 59 ⌝ }
+    ensures { λ r. ⌜ r ≡ weightedBy netting gains losses x ⌝ }
+{
+    if netting {
+        return weighted(x, gains, losses);
+    }
+    x
+}
+
+// The sums with a set of these words that has gathered this tally.
+pub fn with_set(mut s: Sums, w: u32, received: u32, paid: u32, posted: u32, t: Tally) -> Sums
+    requires { ⌜ Roomy s × Weighable t ⌝ }
+    ensures { λ r. ⌜ r ≡ plusSet s (setOf w received paid posted []) t ⌝ }
+{
+    let netting = bit(w, 0);
+    let counts = margin_counts(w);
+    let with_margin = t.losses + marked(counts, wide(size(received)));
+    let replaced = 1000 * replacement(netting, t.gains, with_margin);
+    let gross = weighted_in(netting, t.gains, t.losses, t.gross);
+    let kept = weighted_in(netting, t.gains, t.losses, t.gross - t.uncovered);
+    let cash_paid = 1000 * wide(size(paid));
+    s.assets = s.assets + cash_paid;
+    s.replacement = s.replacement + replaced;
+    s.weighted = s.weighted + gross;
+    s.posted = s.posted + 1000 * wide(size(posted));
+    s.offset = s.offset + marked(counts, cash_paid);
+    s.exempt = s.exempt + marked(bit(w, 5), replaced + kept);
+    s.written = s.written + 1000 * t.written;
+    s.covered = s.covered + (1000 * t.covered + (gross - kept));
+    s
+}

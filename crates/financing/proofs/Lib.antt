@@ -1,0 +1,6 @@
+pub mod Causes
+pub mod DayByDay
+pub mod Order
+pub mod SetSteps
+pub mod Tallies
+pub mod TradeLoop

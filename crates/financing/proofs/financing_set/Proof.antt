@@ -1,0 +1,90 @@
+-- Each return is at a way that the set's turn goes; the set's sums fit, by the words of the part. Assumes nothing.
+use borrow.Author.Needs.{needs}
+use Rattle.financing.proofs.SetSteps.{set-stop, set-broken, set-light, set-whole}
+use Rattle.financing.proofs.financing_set.Statement.{statement}
+use Rattle.financing.proofs.financing_set.Tie as tie
+use Rattle.financing.proofs.financing_set.Reads as reads
+use Rattle.financing.proofs.financing_set.Lts as lts
+use Rattle.financing.proofs.faults.financing_set_fault.Reads as financing-set-fault-reads
+use Rattle.financing.proofs.tally.with_set.Reads as with-set-reads
+use Rattle.financing.proofs.trades.weigh.Reads as weigh-reads
+
+-- src/lib.rt:26:16
+shared-slice-read-head : tie.Need-shared-slice-read-head
+shared-slice-read-head c = search needs
+
+-- src/lib.rt:27:9
+financing-set-fault-requires : tie.Need-financing-set-fault-requires
+financing-set-fault-requires c κs = search needs
+
+-- src/lib.rt:29:9
+returns : tie.Need-returns
+returns c =
+    let a = c .before .before .before .before .args in
+    let p = c .before .before .before .before .pre in
+    let financing-set-fault = c .before .financing-set-fault in
+    let if1 = c .if1 in
+    set-stop (a .bands) (a .s) _ (p .0) (p .1 .0) _ (financing-set-fault .ensures) (if1 .taken)
+
+-- src/lib.rt:31:11
+weigh-requires : tie.Need-weigh-requires
+weigh-requires c κs = search needs
+
+-- src/lib.rt:32:24
+enum-known-t : tie.Need-enum-known-t
+enum-known-t c = search needs
+
+-- src/lib.rt:32:51
+with-set-requires : tie.Need-with-set-requires
+with-set-requires c κs =
+    let p = c .before .before .before .before .before .before .before .before .pre in
+    let a = c .before .before .before .before .before .before .before .before .args in
+    let financing-set-fault = c .before .before .before .before .before .financing-set-fault in
+    let if1 = c .before .before .before .before .if1 in
+    let weigh = c .before .before .before .weigh in
+    let t = c .before .t in (
+      p .1 .1,
+      set-light (a .bands) (a .s) _ (p .0) (p .1 .0) _ (financing-set-fault .ensures) (if1 .left) _ (weigh .ensures) _ _ (t .given .1),
+    )
+
+-- src/lib.rt:33:25
+enum-known-number : tie.Need-enum-known-number
+enum-known-number c = search needs
+
+-- src/lib.rt:22:1
+returns-2 : tie.Need-returns-2
+returns-2 c =
+    let a = c .before .before .before .before .before .before .before .before .before .args in
+    let p = c .before .before .before .before .before .before .before .before .before .pre in
+    let financing-set-fault = c .before .before .before .before .before .before .financing-set-fault in
+    let if1 = c .before .before .before .before .before .if1 in
+    let weigh = c .before .before .before .before .weigh in
+    let t = c .before .before .t in
+    let with-set = c .with-set in
+    set-whole (a .bands) (a .s) _ (p .0) (p .1 .0) _ (financing-set-fault .ensures) (if1 .left) _ (weigh .ensures) _ _ (t .given .1) _
+    (with-set .ensures)
+
+-- src/lib.rt:22:1
+returns-3 : tie.Need-returns-3
+returns-3 c =
+    let a = c .before .before .before .before .before .before .before .before .args in
+    let p = c .before .before .before .before .before .before .before .before .pre in
+    let financing-set-fault = c .before .before .before .before .before .financing-set-fault in
+    let if1 = c .before .before .before .before .if1 in
+    let weigh = c .before .before .before .weigh in
+    let number = c .before .number in
+    set-broken (a .bands) (a .s) _ (p .0) (p .1 .0) _ (financing-set-fault .ensures) (if1 .left) _ (weigh .ensures) _ _ (number .given .1)
+
+pub financing-set-spec : {M : Type 1} → statement M
+financing-set-spec =
+    tie.close
+    (tie.spec
+    shared-slice-read-head
+    financing-set-fault-requires
+    returns
+    weigh-requires
+    enum-known-t
+    with-set-requires
+    enum-known-number
+    returns-2
+    returns-3)

@@ -1,0 +1,172 @@
+-- E* is at most the value lent, and so the sums fit. Assumes nothing.
+use Prim.Native.Nat.{_*_}
+use native.Mathlib.Omega.{arith}
+use borrow.Author.Needs.{needs}
+use Rattle.words.proofs.parts.bit.Reads as bit-reads
+use Rattle.financing.proofs.SetSteps.{excess-most}
+use Rattle.financing.proofs.Causes.{chosen-most}
+use Rattle.financing.specs.Weighing.{plusSet}
+use Rattle.financing.proofs.tally.with_set.Statement.{statement}
+use Rattle.financing.proofs.tally.with_set.Tie as tie
+use Rattle.financing.proofs.tally.with_set.Reads as reads
+use Rattle.financing.proofs.tally.with_set.Lts as lts
+use Rattle.words.proofs.numbers.chosen.Reads as chosen-reads
+use Rattle.financing.proofs.tally.FinancingTally.excess.Reads as excess-reads
+use Rattle.financing.proofs.tally.FinancingTally.netted.Reads as netted-reads
+
+-- src/tally.rt:90:34
+bit-requires : tie.Need-bit-requires
+bit-requires c κs = search needs
+
+-- src/tally.rt:90:25
+excess-requires : tie.Need-excess-requires
+excess-requires c κs = search needs
+
+-- src/tally.rt:90:18
+mul-excess : tie.Need-mul-excess
+mul-excess c =
+    let a = c .before .before .args in
+    let p = c .before .before .pre in
+    let bit = c .before .bit in
+    let excess = c .excess in
+    omega (arith, excess-most (bit .result) (a .t) (p .1 .excess), excess .ensures, p .1 .lent)
+
+-- src/tally.rt:91:16
+mul-lent : tie.Need-mul-lent
+mul-lent c = search needs
+
+-- src/tally.rt:92:9
+bit-requires-2 : tie.Need-bit-requires-2
+bit-requires-2 c κs = search needs
+
+-- src/tally.rt:93:31
+mul-s : tie.Need-mul-s
+mul-s c = search needs
+
+-- src/tally.rt:93:18
+add-s : tie.Need-add-s
+add-s c = search needs
+
+-- src/tally.rt:94:34
+netted-requires : tie.Need-netted-requires
+netted-requires c κs = search needs
+
+-- src/tally.rt:94:27
+mul-s-2 : tie.Need-mul-s-2
+mul-s-2 c = search needs
+
+-- src/tally.rt:94:16
+add-s-2 : tie.Need-add-s-2
+add-s-2 c = search needs
+
+-- src/tally.rt:95:33
+chosen-requires : tie.Need-chosen-requires
+chosen-requires c κs = search needs
+
+-- src/tally.rt:95:19
+add-s-3 : tie.Need-add-s-3
+add-s-3 c =
+    let a = c .before .before .before .before .before .before .before .before .before .before .args in
+    let p = c .before .before .before .before .before .before .before .before .before .before .pre in
+    let bit = c .before .before .before .before .before .before .before .before .before .bit in
+    let excess = c .before .before .before .before .before .before .before .before .excess in
+    let bit2 = c .before .before .before .before .before .before .bit2 in
+    let chosen = c .before .chosen in
+    omega (
+      arith,
+      chosen-most (bit2 .result) 0 (1000 * (excess .result)) (chosen .result) (chosen .ensures),
+      excess-most (bit .result) (a .t) (p .1 .excess),
+      excess .ensures,
+      p .1 .lent,
+      p .0 .principal,
+    )
+
+-- src/tally.rt:96:26
+chosen-requires-2 : tie.Need-chosen-requires-2
+chosen-requires-2 c κs = search needs
+
+-- src/tally.rt:96:60
+bit-requires-3 : tie.Need-bit-requires-3
+bit-requires-3 c κs = search needs
+
+-- src/tally.rt:96:53
+chosen-requires-3 : tie.Need-chosen-requires-3
+chosen-requires-3 c κs = search needs
+
+-- src/tally.rt:96:26
+add-s-4 : tie.Need-add-s-4
+add-s-4 c =
+    let a = c .before .before .before .before .before .before .before .before .before .before .before .before .before .args in
+    let p = c .before .before .before .before .before .before .before .before .before .before .before .before .before .pre in
+    let bit = c .before .before .before .before .before .before .before .before .before .before .before .before .bit in
+    let excess = c .before .before .before .before .before .before .before .before .before .before .before .excess in
+    let bit2 = c .before .before .before .before .before .before .before .before .before .bit2 in
+    let chosen2 = c .before .before .chosen2 in
+    let bit3 = c .before .bit3 in
+    let chosen3 = c .chosen3 in
+    omega (
+      arith,
+      chosen-most (bit2 .result) (1000 * (excess .result)) 0 (chosen2 .result) (chosen2 .ensures),
+      chosen-most (bit3 .result) (1000 * (a .t .lent)) 0 (chosen3 .result) (chosen3 .ensures),
+      excess-most (bit .result) (a .t) (p .1 .excess),
+      excess .ensures,
+      p .1 .lent,
+    )
+
+-- src/tally.rt:96:15
+add-s-5 : tie.Need-add-s-5
+add-s-5 c =
+    let a = c .before .before .before .before .before .before .before .before .before .before .before .before .before .before .args in
+    let p = c .before .before .before .before .before .before .before .before .before .before .before .before .before .before .pre in
+    let bit = c .before .before .before .before .before .before .before .before .before .before .before .before .before .bit in
+    let excess = c .before .before .before .before .before .before .before .before .before .before .before .before .excess in
+    let bit2 = c .before .before .before .before .before .before .before .before .before .before .bit2 in
+    let chosen2 = c .before .before .before .chosen2 in
+    let bit3 = c .before .before .bit3 in
+    let chosen3 = c .before .chosen3 in
+    omega (
+      arith,
+      chosen-most (bit2 .result) (1000 * (excess .result)) 0 (chosen2 .result) (chosen2 .ensures),
+      chosen-most (bit3 .result) (1000 * (a .t .lent)) 0 (chosen3 .result) (chosen3 .ensures),
+      excess-most (bit .result) (a .t) (p .1 .excess),
+      excess .ensures,
+      p .1 .lent,
+      p .0 .agent,
+    )
+
+-- src/tally.rt:86:1
+returns : tie.Need-returns
+unfolding plusSet
+returns c =
+    let bit = c .before .before .before .before .before .before .before .before .before .before .before .before .before .bit in
+    let excess = c .before .before .before .before .before .before .before .before .before .before .before .before .excess in
+    let bit2 = c .before .before .before .before .before .before .before .before .before .before .bit2 in
+    let netted = c .before .before .before .before .before .before .before .netted in
+    let chosen = c .before .before .before .before .before .chosen in
+    let chosen2 = c .before .before .before .chosen2 in
+    let bit3 = c .before .before .bit3 in
+    let chosen3 = c .before .chosen3 in
+    rw (netted .ensures, chosen .ensures, chosen2 .ensures, chosen3 .ensures, excess .ensures, bit .ensures, bit2 .ensures, bit3 .ensures)
+
+pub with-set-spec : {M : Type 1} → statement M
+with-set-spec =
+    tie.close
+    (tie.spec
+    bit-requires
+    excess-requires
+    mul-excess
+    mul-lent
+    bit-requires-2
+    mul-s
+    add-s
+    netted-requires
+    mul-s-2
+    add-s-2
+    chosen-requires
+    add-s-3
+    chosen-requires-2
+    bit-requires-3
+    chosen-requires-3
+    add-s-4
+    add-s-5
+    returns)

@@ -1,0 +1,2 @@
+pub mod Netting
+pub mod Weighing

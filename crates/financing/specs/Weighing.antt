@@ -1,0 +1,139 @@
+-- The weighing of a financing set: a tally that each trade is added to, and what the set puts into the sums by its tally.
+-- Assumes nothing.
+use Prim.Native.Nat.{ℕ, zero, suc, _+_, _-_, _*_, _^_, _≤_, min}
+use mathlib.Core.Bool.{Bool, cond}
+use mathlib.Core.List.{List, [], _∷_}
+use lib.Dec.{eqb}
+use lib.ListN.{length}
+use Rattle.rules.specs.declared.Sums.{Sums}
+use Rattle.rules.specs.Word.{word, bitOf, sizeOf}
+use Rattle.rules.specs.Book.{FinancingTrade}
+use Rattle.rules.specs.Run.{Run, runFrom}
+use Rattle.rules.specs.Faults.{cause, financingTradeFault}
+use Rattle.rules.specs.Read.{lacks, financingMemberTurn}
+use Rattle.financing.specs.declared.tally.FinancingTally.{FinancingTally}
+use Rattle.financing.specs.declared.trades.Weighed.{Weighed}
+use Rattle.financing.specs.declared.trades.Weighed.the-variants.{Whole, Broken}
+
+-- ---- one trade
+
+-- a trade of these words
+abbrev pub tradeOf : (w asset securities receivable payable lent received days : ℕ) → FinancingTrade
+tradeOf w asset securities receivable payable lent received days = record {
+  netSettled = bitOf 0 w;
+  asset = sizeOf asset;
+  securities = sizeOf securities;
+  receivable = sizeOf receivable;
+  payable = sizeOf payable;
+  lent = sizeOf lent;
+  received = sizeOf received;
+  days = sizeOf days;
+}
+
+-- the number of the first fault of the trade at a place, or 0: by the words that it lacks, and by the words that it has
+abbrev pub ownFaultAt : (agent : Bool) (lastDays : ℕ) → List ℕ → ℕ → ℕ
+ownFaultAt agent lastDays ws at =
+    financingTradeFault agent lastDays (word ws at) (word ws (at + 1)) (word ws (at + 2)) (word ws (at + 3))
+    (word ws (at + 4)) (word ws (at + 5)) (word ws (at + 6)) (word ws (at + 7))
+
+abbrev pub tradeFaultAt : (agent : Bool) (lastDays : ℕ) → List ℕ → ℕ → ℕ
+tradeFaultAt agent lastDays ws at = cause 6 (lacks 7 ws at) (ownFaultAt agent lastDays ws at)
+
+-- ---- the tally
+
+abbrev pub noTally : FinancingTally
+noTally = record { assets = 0; lent = 0; received = 0; excess = 0; closed = 0; day = 0; receivable = 0; payable = 0 }
+
+-- cash of a day: on a new day the one before is closed
+unfoldable pub settled : FinancingTally → (marked : Bool) (receivable payable days : ℕ) → FinancingTally
+settled t marked receivable payable days = record {
+  assets = t .assets;
+  lent = t .lent;
+  received = t .received;
+  excess = t .excess;
+  closed = t .closed + cond (eqb days (t .day)) 0 (min (t .receivable) (t .payable));
+  day = days;
+  receivable = cond (eqb days (t .day)) (t .receivable) 0 + cond marked receivable 0;
+  payable = cond (eqb days (t .day)) (t .payable) 0 + cond marked payable 0;
+}
+
+-- with one trade more
+unfoldable pub tallied : FinancingTally → FinancingTrade → FinancingTally
+tallied t x =
+    settled
+    (record {
+      assets = t .assets + (x .asset - x .securities);
+      lent = t .lent + x .lent;
+      received = t .received + x .received;
+      excess = t .excess + (x .lent - x .received);
+      closed = t .closed;
+      day = t .day;
+      receivable = t .receivable;
+      payable = t .payable;
+    })
+    (x .netSettled) (x .receivable) (x .payable) (x .days)
+
+unfoldable pub tallyFrom : FinancingTally → List FinancingTrade → FinancingTally
+tallyFrom t [] = t
+tallyFrom t (x ∷ xs) = tallyFrom (tallied t x) xs
+
+-- the cash netted of all days, the last one too
+abbrev pub nettedIn : FinancingTally → ℕ
+nettedIn t = t .closed + min (t .receivable) (t .payable)
+
+-- "E* is lent minus received, not below 0, over the set if netting is marked, else summed trade by trade"
+abbrev pub excessIn : (netting : Bool) → FinancingTally → ℕ
+excessIn netting t = cond netting (t .lent - t .received) (t .excess)
+
+-- ---- the trades of a set
+
+abbrev pub weighedTo : FinancingTally → (number place : ℕ) → Weighed
+weighedTo t zero place = Whole t place
+weighedTo t (suc number) place = Broken (suc number) place
+
+abbrev pub weighedOf : FinancingTally → Run FinancingTrade → Weighed
+weighedOf t r = weighedTo (tallyFrom t (r .records)) (r .number) (r .place)
+
+-- behind the head of the set
+abbrev pub tradesOf : List ℕ → Run FinancingTrade
+tradesOf ws = runFrom (financingMemberTurn ws) (suc (length ws)) 1
+
+-- ---- the sums with one set more, by its tally and its head word
+
+unfoldable pub plusSet : Sums → FinancingTally → (w : ℕ) → Sums
+plusSet s t w = record {
+  assets = s .assets;
+  deducted = s .deducted;
+  replacement = s .replacement;
+  weighted = s .weighted;
+  posted = s .posted;
+  offset = s .offset;
+  exempt = s .exempt;
+  written = s .written;
+  covered = s .covered;
+  financed = s .financed + 1000 * t .assets;
+  netted = s .netted + 1000 * nettedIn t;
+  principal = s .principal + cond (bitOf 1 w) 0 (1000 * excessIn (bitOf 0 w) t);
+  agent = s .agent + (cond (bitOf 1 w) (1000 * excessIn (bitOf 0 w) t) 0 + cond (bitOf 2 w) (1000 * t .lent) 0);
+  committed = s .committed;
+  unconverted = s .unconverted;
+}
+
+-- ---- what fits 64 bits
+
+-- a tally that leaves room for one trade more
+pub record Room (t : FinancingTally) : Type 0 where
+  pub assets : t .assets ≤ 2 ^ 62
+  pub lent : t .lent ≤ 2 ^ 62
+  pub received : t .received ≤ 2 ^ 62
+  pub excess : t .excess ≤ 2 ^ 62
+  pub closed : t .closed ≤ 2 ^ 62
+  pub receivable : t .receivable ≤ 2 ^ 62
+  pub payable : t .payable ≤ 2 ^ 62
+
+-- a tally whose thousandths fit
+pub record Light (t : FinancingTally) : Type 0 where
+  pub assets : 1000 * t .assets ≤ 2 ^ 61
+  pub netted : 1000 * nettedIn t ≤ 2 ^ 61
+  pub lent : 2000 * t .lent ≤ 2 ^ 61
+  pub excess : t .excess ≤ t .lent

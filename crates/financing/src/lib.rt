@@ -1,0 +1,35 @@
+// Financing sets: securities financing trades with one counterparty (document 01, kinds 8 and 9, rows 12 to 15).
+use crate::faults::financing_set_fault;
+use crate::tally::with_set;
+use crate::trades::Weighed;
+use crate::trades::weigh;
+use records::ItemStep;
+use rules::Bands;
+use rules::Sums;
+ghost use mathlib.Core.Path.{_≡_};
+ghost use denote.Ref.{now};
+ghost use Rattle.rules.specs.Word.{kindOf, word};
+ghost use Rattle.rules.specs.Read.{financingSetTurn};
+ghost use Rattle.records.specs.Step.{Part, Roomy, itemStep};
+
+mod amounts;
+mod faults;
+mod tally;
+mod trades;
+
+// The set at the head of a part of the book, in the sums: "A part of the lent book starting at the set's head is handed on to the
+// function that weighs the set". No row of it goes by the bands.
+pub fn financing_set(part: &[u32], s: Sums, bands: Bands) -> ItemStep
+    requires { ⌜ Part (now part) × ((kindOf (word (now part) 0) ≡ 8) × Roomy s) ⌝ }
+    ensures { λ r. ⌜ r ≡ itemStep bands s (financingSetTurn (now (part .entry))) ⌝ }
+{
+    let head = part[0];
+    let fault = financing_set_fault(head);
+    if fault != 0 {
+        return ItemStep::Stop(fault, 0);
+    }
+    match weigh(part) {
+        Weighed::Whole(t, next) => ItemStep::Next(with_set(s, t, head), next),
+        Weighed::Broken(number, place) => ItemStep::Stop(number, place),
+    }
+}

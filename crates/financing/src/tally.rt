@@ -1,0 +1,108 @@
+// The tally of a financing set: its sums so far, and the cash of the day that is not closed yet.
+use crate::amounts::amount;
+use rules::Sums;
+use words::amount::size;
+use words::numbers::chosen;
+use words::numbers::less;
+use words::numbers::lesser;
+use words::parts::bit;
+ghost use mathlib.Core.Path.{_≡_};
+ghost use Prim.Native.Nat.{_^_, _≤_};
+ghost use Rattle.records.specs.Step.{Roomy};
+ghost use Rattle.financing.specs.Weighing.{Light, Room, excessIn, nettedIn, noTally, plusSet, settled, tallied, tradeOf};
+
+// Gross assets less securities, value lent and value received, what was lent beyond what was received trade by trade; cash netted of
+// the days that are closed, and the day of the trade before with its receivables and payables.
+pub struct FinancingTally {
+    pub assets: u64,
+    pub lent: u64,
+    pub received: u64,
+    pub excess: u64,
+    pub closed: u64,
+    pub day: u32,
+    pub receivable: u64,
+    pub payable: u64,
+}
+
+impl FinancingTally {
+    pub fn none() -> FinancingTally
+        ensures { λ r. ⌜ r ≡ noTally ⌝ }
+    {
+        FinancingTally {
+            assets: 0,
+            lent: 0,
+            received: 0,
+            excess: 0,
+            closed: 0,
+            day: 0,
+            receivable: 0,
+            payable: 0,
+        }
+    }
+
+    // One trade more, by its words.
+    pub fn add(
+        mut self,
+        w: u32,
+        asset: u32,
+        securities: u32,
+        receivable: u32,
+        payable: u32,
+        lent: u32,
+        received: u32,
+        days: u32,
+    ) -> FinancingTally
+        requires { ⌜ Room self ⌝ }
+        ensures { λ r. ⌜ r ≡ tallied self (tradeOf w asset securities receivable payable lent received days) ⌝ }
+    {
+        self.assets = self.assets + less(amount(asset), amount(securities));
+        self.lent = self.lent + amount(lent);
+        self.received = self.received + amount(received);
+        self.excess = self.excess + less(amount(lent), amount(received));
+        self.settle(bit(w, 0), amount(receivable), amount(payable), size(days))
+    }
+
+    // "cash netted is the lesser of summed receivables and summed payables; the days are added": a new day closes the one before.
+    fn settle(mut self, marked: bool, receivable: u64, payable: u64, days: u32) -> FinancingTally
+        requires { ⌜ (self .closed ≤ 2 ^ 62) × (self .receivable ≤ 2 ^ 62) × (self .payable ≤ 2 ^ 62) × (receivable ≤ 2 ^ 62) × (payable ≤ 2 ^ 62) ⌝ }
+        ensures { λ r. ⌜ r ≡ settled self marked receivable payable days ⌝ }
+    {
+        let same = days == self.day;
+        self.closed = self.closed + chosen(same, 0, lesser(self.receivable, self.payable));
+        self.day = days;
+        self.receivable = chosen(same, self.receivable, 0) + chosen(marked, receivable, 0);
+        self.payable = chosen(same, self.payable, 0) + chosen(marked, payable, 0);
+        self
+    }
+
+    // The cash netted of all days, the last one too.
+    pub fn netted(self) -> u64
+        requires { ⌜ Light self ⌝ }
+        ensures { λ r. ⌜ r ≡ nettedIn self ⌝ }
+    {
+        self.closed + lesser(self.receivable, self.payable)
+    }
+
+    // E*: "lent minus received, not below 0, over the set if netting is marked, else summed trade by trade"
+    pub fn excess(self, netting: bool) -> u64
+        ensures { λ r. ⌜ r ≡ excessIn netting self ⌝ }
+    {
+        chosen(netting, less(self.lent, self.received), self.excess)
+    }
+}
+
+// The sums with a set more: "12: asset − securities. 13: −cash netted. 14: E* of principal sets. 15: E* of agent sets, plus all value
+// lent with bit 2."
+pub fn with_set(mut s: Sums, t: FinancingTally, w: u32) -> Sums
+    requires { ⌜ Roomy s × Light t ⌝ }
+    ensures { λ r. ⌜ r ≡ plusSet s t w ⌝ }
+{
+    let excess = 1000 * t.excess(bit(w, 0));
+    let lent = 1000 * t.lent;
+    let agent = bit(w, 1);
+    s.financed = s.financed + 1000 * t.assets;
+    s.netted = s.netted + 1000 * t.netted();
+    s.principal = s.principal + chosen(agent, 0, excess);
+    s.agent = s.agent + (chosen(agent, excess, 0) + chosen(bit(w, 2), lent, 0));
+    s
+}

@@ -1,0 +1,4 @@
+pub mod ProtectionLaws
+pub mod ItemLaws
+pub mod ItemLoop
+pub mod BookLaws

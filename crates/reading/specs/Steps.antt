@@ -1,0 +1,42 @@
+-- What the reading answers at each of its levels. Assumes nothing.
+use Prim.Native.Nat.{ℕ, zero, suc, _+_, _*_, _^_, _≤_}
+use mathlib.Core.Bool.{cond}
+use mathlib.Core.List.{List}
+use lib.Dec.{eqb}
+use Rattle.rules.specs.declared.Bands.{Bands}
+use Rattle.rules.specs.declared.Sums.{Sums}
+use Rattle.rules.specs.Book.{Protection, Placed}
+use Rattle.rules.specs.Run.{Turn, over, bad, some, Run}
+use Rattle.rules.specs.Rows.{sumsOf}
+use Rattle.records.specs.Step.{plusItem}
+use Rattle.reading.specs.declared.items.ItemAnswer.{ItemAnswer}
+use Rattle.reading.specs.declared.items.ItemAnswer.the-variants.{More, End, Halt}
+use Rattle.reading.specs.declared.protections.Protections.{Protections}
+use Rattle.reading.specs.declared.protections.Protections.the-variants.{Upto, Wrong}
+use Rattle.reading.specs.declared.Reading.{Reading}
+use Rattle.reading.specs.declared.Reading.the-variants.{Whole, Fault}
+
+-- ---- protections
+
+abbrev pub protectionStep : Turn Protection → Protections
+protectionStep over = Upto 0
+protectionStep (bad number place) = Wrong number place
+protectionStep (some p zero next) = Upto next
+protectionStep (some p (suc number) place) = Wrong (suc number) place
+
+unfoldable pub placeOf : Run Protection → Protections
+placeOf r = cond (eqb (r .number) 0) (Upto (r .place)) (Wrong (r .number) (r .place))
+
+-- ---- items
+
+abbrev pub itemAnswer : Bands → Sums → Turn Placed → ItemAnswer
+itemAnswer bands s over = End
+itemAnswer bands s (bad number place) = Halt number place
+itemAnswer bands s (some p zero next) = More (plusItem bands s (p .item)) next
+itemAnswer bands s (some p (suc number) place) = Halt (suc number) place
+
+-- ---- the book
+
+-- the sums of all items, or the first fault
+unfoldable pub readingOf : Bands → Run Placed → Reading
+readingOf bands r = cond (eqb (r .number) 0) (Whole (sumsOf bands (r .records)) (r .place)) (Fault (r .number) (r .place))

@@ -1,0 +1,39 @@
+// Kind 1, the head, and its Tier 1.
+use rules::Bands;
+use words::amount::minus_zero;
+use words::parts::kind;
+use words::parts::payload;
+ghost use mathlib.Core.Path.{_≡_};
+ghost use denote.Ref.{now};
+ghost use Rattle.rules.specs.Read.{headFaulty, headOf};
+
+// "under two words, no good head word or Tier 1 word"
+pub fn head_faulty(book: &[u32]) -> bool
+    ensures { λ r. ⌜ r ≡ headFaulty (now (book .entry)) ⌝ }
+{
+    if book.len() < 2 {
+        return true;
+    }
+    let head = book[0];
+    if kind(head) != 1 {
+        return true;
+    }
+    if payload(head) > 4096 {
+        return true;
+    }
+    let tier1 = book[1];
+    if kind(tier1) != 0 {
+        return true;
+    }
+    minus_zero(tier1)
+}
+
+// The bands of the book's factors end at 365 and 1,825 days.
+pub fn bands_of(book: &[u32]) -> Bands
+    ensures { λ r. ⌜ r ≡ headOf (now (book .entry)) .bands ⌝ }
+{
+    Bands {
+        short: 365,
+        medium: 1825,
+    }
+}

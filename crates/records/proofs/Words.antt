@@ -1,0 +1,72 @@
+-- The words behind a place, one by one from the last; what `lacking` and `standing` tell; and a record's turn by them.
+-- Assumes nothing.
+use Prim.Native.Nat.{ℕ, zero, suc, _+_, _-_, _≤_, _<_}
+use mathlib.Core.Path.{_≡_, refl, sym, _∙_, ap}
+use mathlib.Core.Bool.{Bool, true, false, not, _||_, cond}
+use mathlib.Core.List.{List}
+use native.Mathlib.Omega.{arith}
+use native.Mathlib.Numerals.{sub-one}
+use borrow.Author.Tests.{le-leb, lt-leb, eq-eqb, ne-eqb, le-ltb, lt-ltb}
+use lib.Dec.{leb, ltb, eqb}
+use lib.ListN.{length}
+use Rattle.rules.specs.Word.{word, kindOf, amountsOfKind, amountsIn}
+use Rattle.rules.specs.Run.{Turn, bad, sound}
+use Rattle.rules.specs.Read.{lacks, recordThen, stands}
+use Rattle.rules.proofs.Lists.{or-true}
+use Rattle.theorems.proofs.Records.{lacks-room}
+
+-- ---- the loop of `lacking`: i is what it has come to
+
+module _ (ws : List ℕ) (at n : ℕ) where
+  pub lacking-short : (i : ℕ) → lacks n ws at ≡ lacks i ws at → 0 < i → length ws ≤ at + i → true ≡ lacks n ws at
+  unfolding lacks
+  lacking-short zero e h k = let z : ⊥ = omega arith in absurd z
+  lacking-short (suc i) e h k = sym (e ∙ simp (le-leb _ _ k))
+
+  pub lacking-other : (i k : ℕ) → lacks n ws at ≡ lacks i ws at → 0 < i → k ≡ kindOf (word ws (at + i)) → (k ≡ 0 → ⊥) → true ≡ lacks n ws at
+  unfolding lacks
+  lacking-other zero k e h q f = let z : ⊥ = omega arith in absurd z
+  lacking-other (suc i) k e h q f = sym (e ∙ simp (ne-eqb _ _ (λ z. f (q ∙ z)), or-true))
+
+  pub lacking-next : (i k : ℕ) → lacks n ws at ≡ lacks i ws at → 0 < i → at + i < length ws → k ≡ kindOf (word ws (at + i)) → k ≡ 0 → lacks n ws at ≡ lacks (i - 1) ws at
+  unfolding lacks
+  lacking-next zero k e h l q f = let z : ⊥ = omega arith in absurd z
+  lacking-next (suc i) k e h l q f = rw (sub-one) (e ∙ simp (lt-leb _ _ l, eq-eqb _ _ (sym q ∙ f)))
+
+  pub lacking-none : (i : ℕ) → lacks n ws at ≡ lacks i ws at → i ≤ 0 → false ≡ lacks n ws at
+  unfolding lacks
+  lacking-none zero e h = sym e
+  lacking-none (suc i) e h = let z : ⊥ = omega arith in absurd z
+
+-- ---- `standing`
+
+pub standing-beyond : (ws : List ℕ) (at k : ℕ) → length ws ≤ at → false ≡ stands k ws at
+standing-beyond ws at k h = simp (le-ltb at (length ws) h)
+
+pub standing-there : (ws : List ℕ) (at k n : ℕ) → at < length ws → n ≡ kindOf (word ws at) → eqb n k ≡ stands k ws at
+standing-there ws at k n h q = simp (lt-ltb at (length ws) h, q)
+
+-- ---- what they tell
+
+-- as a call of `lacking` gave it
+pub room : (n k : ℕ) (ws : List ℕ) (at : ℕ) (r : Bool) → r ≡ lacks n ws at → r ≡ false → at < length ws → k ≤ n → at + k < length ws
+room n k ws at r q e h l = omega (arith, lacks-room n ws at (sym q ∙ e) h)
+
+-- ---- a record of a known kind, by what is lacking and by its own fault
+
+module _ {A : Type 0} (ws : List ℕ) (at kind : ℕ) (k : kindOf (word ws at) ≡ kind) (f : ℕ) (next : ℕ → Turn A) where
+  pub turn-lacks : lacks (amountsOfKind kind) ws at ≡ true → recordThen ws at f next ≡ bad 6 at
+  unfolding recordThen
+  turn-lacks e = simp (k, e)
+
+  pub turn-fault : lacks (amountsOfKind kind) ws at ≡ false → (f ≡ 0 → ⊥) → recordThen ws at f next ≡ bad f at
+  unfolding recordThen
+  turn-fault e h = simp (k, e) (go f h)
+    where
+      go : (g : ℕ) → (g ≡ 0 → ⊥) → sound g at (next (at + suc (amountsOfKind kind))) ≡ bad g at
+      go zero h = absurd (h refl)
+      go (suc g) h = refl
+
+  pub turn-on : lacks (amountsOfKind kind) ws at ≡ false → f ≡ 0 → recordThen ws at f next ≡ next (at + suc (amountsOfKind kind))
+  unfolding recordThen
+  turn-on e h = simp (k, e, h)

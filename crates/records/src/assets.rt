@@ -1,0 +1,66 @@
+// Kind 2, an asset.
+use crate::ItemStep;
+use crate::presence::lacking;
+use rules::Bands;
+use rules::Sums;
+use words::amount::faulty_amount;
+use words::amount::size;
+use words::parts::bit;
+use words::parts::payload;
+ghost use mathlib.Core.Path.{_≡_};
+ghost use Prim.Native.Nat.{_+_, _≤_};
+ghost use denote.Ref.{now};
+ghost use Rattle.rules.specs.Word.{kindOf, sizeOf, word};
+ghost use Rattle.rules.specs.Faults.{assetFault};
+ghost use Rattle.rules.specs.Read.{assetTurn};
+ghost use Rattle.records.specs.Step.{itemStep, Part, Roomy, plusAsset};
+
+// The causes 7 to 9 of an asset with these words.
+fn asset_fault(w: u32, carrying: u32, provision: u32, deducted: u32) -> u32
+    ensures { λ r. ⌜ r ≡ assetFault w carrying provision deducted ⌝ }
+{
+    if payload(w) >= 2 {
+        return 7;
+    }
+    if faulty_amount(carrying) {
+        return 8;
+    }
+    if faulty_amount(provision) {
+        return 8;
+    }
+    if faulty_amount(deducted) {
+        return 8;
+    }
+    if size(carrying) < size(provision) + size(deducted) {
+        return 9;
+    }
+    0
+}
+
+// Rows 1 and 2: nothing of a fiduciary asset.
+fn with_asset(mut s: Sums, w: u32, carrying: u32, provision: u32, deducted: u32) -> Sums
+    requires { ⌜ Roomy s × (sizeOf provision + sizeOf deducted ≤ sizeOf carrying) ⌝ }
+    ensures { λ r. ⌜ r ≡ plusAsset s w carrying provision deducted ⌝ }
+{
+    if bit(w, 0) {
+        return s;
+    }
+    s.assets += 1000 * ((size(carrying) - size(provision)) as u64);
+    s.deducted += 1000 * (size(deducted) as u64);
+    s
+}
+
+pub fn asset(part: &[u32], s: Sums, bands: Bands) -> ItemStep
+    requires { ⌜ Part (now part) × ((kindOf (word (now part) 0) ≡ 2) × Roomy s) ⌝ }
+    ensures { λ r. ⌜ r ≡ itemStep bands s (assetTurn (now (part .entry))) ⌝ }
+{
+    if lacking(part, 0, 3) {
+        return ItemStep::Stop(6, 0);
+    }
+    let fault = asset_fault(part[0], part[1], part[2], part[3]);
+    if fault != 0 {
+        return ItemStep::Stop(fault, 0);
+    }
+    let sums = with_asset(s, part[0], part[1], part[2], part[3]);
+    ItemStep::Next(sums, 4)
+}

@@ -1,0 +1,63 @@
+// Kind 10, an off-balance item.
+use crate::ItemStep;
+use crate::presence::lacking;
+use rules::Bands;
+use rules::Sums;
+use weights::conversion::conversion;
+use words::amount::faulty_amount;
+use words::amount::size;
+use words::parts::field;
+use words::parts::payload;
+ghost use mathlib.Core.Path.{_≡_};
+ghost use denote.Ref.{now};
+ghost use Rattle.rules.specs.Word.{kindOf, word};
+ghost use Rattle.rules.specs.Faults.{offBalanceFault};
+ghost use Rattle.rules.specs.Read.{offBalanceTurn};
+ghost use Rattle.records.specs.Step.{itemStep, Part, Roomy, plusOffBalance};
+
+// The causes 7 and 8 of an off-balance item with these words: bits 0-3 its class, bits 4-7 one more than the class of the item
+// committed to.
+fn off_balance_fault(w: u32, notional: u32) -> u32
+    ensures { λ r. ⌜ r ≡ offBalanceFault w notional ⌝ }
+{
+    if payload(w) >= 256 {
+        return 7;
+    }
+    if field(w, 0, 4) > 10 {
+        return 7;
+    }
+    if field(w, 4, 4) > 11 {
+        return 7;
+    }
+    if faulty_amount(notional) {
+        return 8;
+    }
+    0
+}
+
+// Rows 17 and 18.
+fn with_off_balance(mut s: Sums, w: u32, notional: u32) -> Sums
+    requires { ⌜ Roomy s ⌝ }
+    ensures { λ r. ⌜ r ≡ plusOffBalance s w notional ⌝ }
+{
+    let figure = conversion(field(w, 0, 4), field(w, 4, 4));
+    let amount = size(notional) as u64;
+    s.committed += 1000 * amount;
+    s.unconverted += ((1000 - figure) as u64) * amount;
+    s
+}
+
+pub fn off_balance(part: &[u32], s: Sums, bands: Bands) -> ItemStep
+    requires { ⌜ Part (now part) × ((kindOf (word (now part) 0) ≡ 10) × Roomy s) ⌝ }
+    ensures { λ r. ⌜ r ≡ itemStep bands s (offBalanceTurn (now (part .entry))) ⌝ }
+{
+    if lacking(part, 0, 1) {
+        return ItemStep::Stop(6, 0);
+    }
+    let fault = off_balance_fault(part[0], part[1]);
+    if fault != 0 {
+        return ItemStep::Stop(fault, 0);
+    }
+    let sums = with_off_balance(s, part[0], part[1]);
+    ItemStep::Next(sums, 2)
+}

@@ -1,0 +1,13 @@
+// Records of a book: whether all words of a record are there, and the two items that are one record, assets and off-balance items.
+use rules::Sums;
+
+pub mod assets;
+pub mod commitments;
+pub mod presence;
+
+// What stands at an item's head: the sums with the item in them and the place behind it, or the number and the place of the first
+// fault. Places count from the item's head.
+pub enum ItemStep {
+    Next(Sums, usize),
+    Stop(u32, usize),
+}

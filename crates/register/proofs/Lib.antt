@@ -1,0 +1,7 @@
+pub mod Calls
+pub mod Lent
+pub mod Loaded
+pub mod Relend
+pub mod Rows
+pub mod Search
+pub mod Settling

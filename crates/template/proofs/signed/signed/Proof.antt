@@ -1,0 +1,41 @@
+-- By the sign of the difference. Assumes nothing.
+use Prim.Native.Nat.{_-_}
+use mathlib.Core.Path.{_∙_}
+use native.Mathlib.Omega.{arith}
+use borrow.Author.Needs.{needs}
+use Rattle.rules.proofs.Differences.{neg-eq, pos-eq}
+use Rattle.template.proofs.Reading.{read}
+use Rattle.template.proofs.signed.signed.Statement.{statement}
+use Rattle.template.proofs.signed.signed.Tie as tie
+use Rattle.template.proofs.signed.signed.Reads as reads
+use Rattle.template.proofs.signed.signed.Lts as lts
+use Rattle.template.proofs.signed.below_zero.Reads as below-zero-reads
+use Rattle.template.proofs.signed.whole.Reads as whole-reads
+
+-- src/signed.rt:28:27
+sub-below-zero : tie.Need-sub-below-zero
+sub-below-zero c = search needs
+
+-- src/signed.rt:28:9
+below-zero-requires : tie.Need-below-zero-requires
+below-zero-requires c κs = search needs
+
+-- src/signed.rt:28:9
+returns : tie.Need-returns
+returns c =
+    let a = c .before .before .args in
+    read (c .below-zero .ok) (c .below-zero .ensures ∙ neg-eq (a .down - a .up) (a .up) (a .down) (omega arith))
+
+-- src/signed.rt:30:5
+whole-requires : tie.Need-whole-requires
+whole-requires c κs = search needs
+
+-- src/signed.rt:23:1
+returns-2 : tie.Need-returns-2
+returns-2 c =
+    let a = c .before .before .args in
+    read (c .whole .ok) (c .whole .ensures ∙ pos-eq (a .up - a .down) (a .up) (a .down) (omega arith))
+
+pub signed-spec : {M : Type 1} → statement M
+signed-spec =
+    tie.close (tie.spec sub-below-zero below-zero-requires returns whole-requires returns-2)

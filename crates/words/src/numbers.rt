@@ -1,0 +1,32 @@
+// Numbers of 64 bits from amounts, and values chosen by what the data says: the machine chooses between two values without a branch.
+ghost use mathlib.Core.Bool.{cond};
+ghost use mathlib.Core.Path.{_≡_};
+ghost use Prim.Native.Nat.{_-_, min};
+
+pub fn wide(x: u32) -> u64
+    ensures { λ r. ⌜ r ≡ x ⌝ }
+{
+    x as u64
+}
+
+// a less b, not below 0
+pub fn less(a: u64, b: u64) -> u64
+    ensures { λ r. ⌜ r ≡ a - b ⌝ }
+{
+    if a < b { 0 } else { a - b }
+}
+
+pub fn lesser(a: u64, b: u64) -> u64
+    ensures { λ r. ⌜ r ≡ min a b ⌝ }
+{
+    if a < b { a } else { b }
+}
+
+pub fn chosen(mark: bool, marked: u64, other: u64) -> u64
+    ensures { λ r. ⌜ r ≡ cond mark marked other ⌝ }
+{
+    if mark {
+        return marked;
+    }
+    other
+}
