@@ -1,0 +1,69 @@
+-- The cases of the answers, as the code's matches meet them. Assumes nothing.
+use Prim.Native.Nat.{ℕ, zero, suc, _≤_, _<_}
+use mathlib.Core.Path.{_≡_, refl, sym, _∙_, ap}
+use mathlib.Core.Bool.{Bool, true, false, cond}
+use mathlib.Core.List.{List, _++_}
+use native.Mathlib.Omega.{arith}
+use borrow.Author.Tests.{eq-eqb, ne-eqb}
+use lib.Dec.{eqb}
+use lib.IntN.{ℤ, pos}
+use lib.ListN.{length, drop, List·getD-eq-default}
+use Rattle.rules.specs.declared.Sums.{Sums}
+use Rattle.rules.specs.Word.{word, gainOf, lossOf}
+use Rattle.rules.specs.Book.{Head}
+use Rattle.rules.specs.Ratio.{tier1Of, verdictOf}
+use Rattle.rules.specs.Rows.{exposureRow, rowsOf}
+use Rattle.template.specs.Sections.{Small}
+use Rattle.reading.specs.declared.Reading.{Reading}
+use Rattle.reading.specs.declared.Reading.the-variants.{Whole, Fault}
+use Rattle.register.specs.declared.Settlement.{Settlement}
+use Rattle.leverage.specs.declared.Admission.{Admission}
+use Rattle.leverage.specs.declared.Admission.the-variants.{Early, Within, Admitted}
+use Rattle.leverage.specs.declared.Answer.{Answer}
+use Rattle.leverage.specs.declared.Answer.the-variants.{Refused, Accepted}
+use Rattle.leverage.specs.Answers.{concluded, stopOf, uncleared, answerTo, rowsTo, Publishable}
+
+-- a word beyond the book is 0
+pub no-word : (ws : List ℕ) (at : ℕ) → length ws ≤ at → word ws at ≡ 0
+no-word ws at h = List·getD-eq-default ws 0 h
+
+module _ (r : Reading) (s : Settlement) where
+  pub unfit-cover : (s .number ≡ 0 → ⊥) → Within (s .number) (s .place) ≡ concluded r s
+  unfit-cover n = go r
+    where
+      go : (x : Reading) → Within (s .number) (s .place) ≡ concluded x s
+      go (Whole sums place) = simp (ne-eqb (s .number) 0 n)
+      go (Fault number place) = simp (ne-eqb (s .number) 0 n)
+
+  pub all-whole : s .number ≡ 0 → (sums : Sums) (place : ℕ) → r ≡ Whole sums place → Admitted sums ≡ concluded r s
+  all-whole z sums place e = rw e (simp (eq-eqb (s .number) 0 z))
+
+  pub faulty-record : s .number ≡ 0 → (number place : ℕ) → r ≡ Fault number place → Within number place ≡ concluded r s
+  faulty-record z number place e = rw e (simp (eq-eqb (s .number) 0 z))
+
+  pub uncleared-fault : (number place : ℕ) → r ≡ Fault number place → eqb (s .number) 0 ≡ uncleared r s
+  uncleared-fault number place e = rw e
+
+pub stop-whole : (r : Reading) (sums : Sums) (place : ℕ) → r ≡ Whole sums place → place ≡ stopOf r
+stop-whole r sums place e = rw e
+
+module _ (head : Head) (rows : List ℤ) (a : Admission) where
+  pub to-early : (number : ℕ) → a ≡ Early number → (Refused number 0 ≡ answerTo head a) × (rows ≡ rowsTo head a rows)
+  to-early number e = rw e (refl, refl)
+
+  pub to-within : (number place : ℕ) → a ≡ Within number place → (Refused number place ≡ answerTo head a) × (rows ≡ rowsTo head a rows)
+  to-within number place e = rw e (refl, refl)
+
+  pub to-admitted : (s : Sums) → a ≡ Admitted s → (v : ℕ) (rows′ : List ℤ) → v ≡ verdictOf (tier1Of (head .gain) (head .loss)) (exposureRow s) → rows′ ≡ rowsOf s (head .gain) (head .loss) ++ drop 22 rows
+      → (Accepted v ≡ answerTo head a) × (rows′ ≡ rowsTo head a rows)
+  to-admitted s e v rows′ vq wq = rw e (ap Accepted vq, wq)
+
+pub small-admitted : (a : Admission) (s : Sums) → a ≡ Admitted s → Publishable a → Small s
+small-admitted a s e p = rw e at p
+
+-- the rows and the verdict of an admitted book, from what each call gave
+pub published : (head : Head) (s : Sums) (rows : List ℤ) (gain loss : ℕ) → gain ≡ head .gain → loss ≡ head .loss
+    → (made rows′ : List ℤ) → made ≡ rowsOf s gain loss → rows′ ≡ made ++ drop 22 rows
+    → (e v : ℕ) → pos e ≡ exposureRow s → v ≡ verdictOf (tier1Of gain loss) (pos e)
+    → (v ≡ verdictOf (tier1Of (head .gain) (head .loss)) (exposureRow s)) × (rows′ ≡ rowsOf s (head .gain) (head .loss) ++ drop 22 rows)
+published head s rows gain loss gq lq made rows′ mq rq e v eq vq = (vq ∙ rw (gq, lq, eq), rq ∙ rw (mq, gq, lq))

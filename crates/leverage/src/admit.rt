@@ -1,0 +1,35 @@
+// All of a filing but the rows: the reading, and the settling in the lent register.
+use crate::Admission;
+use crate::early::early;
+use crate::early::protections_of;
+use crate::stages::conclude;
+use crate::stages::is_uncleared;
+use crate::stages::stop_of;
+use reading::whole::read;
+use register::clear;
+use register::settle;
+use rules::Entry;
+ghost use mathlib.Core.Path.{_≡_};
+ghost use lib.ListN.{length};
+ghost use Rattle.rules.specs.Read.{headOf};
+ghost use Rattle.rules.specs.Filing.{admission, registerAfter};
+ghost use Rattle.leverage.specs.Answers.{admissionOf};
+
+// How far the book comes, and the whole register: number, place and sums of every book, whatever the register held.
+pub fn admit(book: &[u32], register: &mut [Entry]) -> Admission
+    ensures { λ a. ⌜ (a ≡ admissionOf (headOf (now (book .entry)) .bands) (admission (now (book .entry)) (length (now (register .entry)))))
+        × (now (register .exit) ≡ registerAfter (headOf (now (book .entry))) (admission (now (book .entry)) (length (now (register .entry)))) (now (register .entry))) ⌝ }
+{
+    let number = early(book, register.len());
+    if number != 0 {
+        return Admission::Early(number);
+    }
+    let b = protections_of(book);
+    let r = read(book);
+    let s = settle(book, register, b, stop_of(r));
+    if is_uncleared(r, s) {
+        clear(register, b);
+        return conclude(r, s);
+    }
+    conclude(r, s)
+}

@@ -1,0 +1,54 @@
+// The refusals before the records.
+use reading::head::head_faulty;
+use words::amount::gain;
+use words::amount::loss;
+use words::parts::payload;
+ghost use mathlib.Core.Path.{_≡_};
+ghost use denote.Ref.{now};
+ghost use Rattle.rules.specs.Read.{headOf};
+ghost use Rattle.leverage.specs.Answers.{earlyNumber};
+
+// b, the count of bought protections; 0 of an empty book.
+pub fn protections_of(book: &[u32]) -> usize
+    ensures { λ r. ⌜ r ≡ headOf (now (book .entry)) .protections ⌝ }
+{
+    if book.len() < 1 {
+        return 0;
+    }
+    payload(book[0]) as usize
+}
+
+// 2 where the book is too long, 3 where its head is not good, 4 where the register is too short for it; else 0.
+pub fn early(book: &[u32], entries: usize) -> u32
+    ensures { λ r. ⌜ r ≡ earlyNumber (now (book .entry)) entries ⌝ }
+{
+    if book.len() > 1048576 {
+        return 2;
+    }
+    if head_faulty(book) {
+        return 3;
+    }
+    if entries < protections_of(book) {
+        return 4;
+    }
+    0
+}
+
+// Tier 1 as a gain and a loss.
+pub fn tier1_gain(book: &[u32]) -> u32
+    ensures { λ r. ⌜ r ≡ headOf (now (book .entry)) .gain ⌝ }
+{
+    if book.len() < 2 {
+        return gain(0);
+    }
+    gain(book[1])
+}
+
+pub fn tier1_loss(book: &[u32]) -> u32
+    ensures { λ r. ⌜ r ≡ headOf (now (book .entry)) .loss ⌝ }
+{
+    if book.len() < 2 {
+        return loss(0);
+    }
+    loss(book[1])
+}

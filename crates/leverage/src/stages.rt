@@ -1,0 +1,39 @@
+// What the reading and the settling come to together.
+use crate::Admission;
+use reading::Reading;
+use register::Settlement;
+ghost use mathlib.Core.Path.{_≡_};
+ghost use Rattle.leverage.specs.Answers.{concluded, stopOf, uncleared};
+
+// Where the reading stops: the covers before that place are settled.
+pub fn stop_of(r: Reading) -> usize
+    ensures { λ p. ⌜ p ≡ stopOf r ⌝ }
+{
+    match r {
+        Reading::Whole(_, place) => place,
+        Reading::Fault(_, place) => place,
+    }
+}
+
+// "the first faulty record": a cover that is unfit stands before the record at which the reading stops.
+pub fn conclude(r: Reading, s: Settlement) -> Admission
+    ensures { λ a. ⌜ a ≡ concluded r s ⌝ }
+{
+    if s.number != 0 {
+        return Admission::Within(s.number, s.place);
+    }
+    match r {
+        Reading::Whole(sums, _) => Admission::Admitted(sums),
+        Reading::Fault(number, place) => Admission::Within(number, place),
+    }
+}
+
+// The settling has cleared the register where a cover is unfit; a fault of the reading is left to the caller.
+pub fn is_uncleared(r: Reading, s: Settlement) -> bool
+    ensures { λ b. ⌜ b ≡ uncleared r s ⌝ }
+{
+    match r {
+        Reading::Whole(_, _) => false,
+        Reading::Fault(_, _) => s.number == 0,
+    }
+}
