@@ -4,7 +4,7 @@
 use mathlib.Core.Path.{_≡_, refl, ap, _∙_, subst}
 use mathlib.Core.Bool.{Bool}
 use Prim.Native.Nat.{ℕ, _<_, _≤_, _^_}
-use mathlib.Core.List.{List, [], _∷_, _++_}
+use mathlib.Core.List.{List, [], _∷_}
 use lib.ListN.{length}
 use lib.IntN.{ℤ}
 use lib.Dec.{T as Holds}
@@ -19,7 +19,7 @@ use prog.Routine.{Routine}
 use prog.Wp.{Heap, Env}
 use ghost.Atoms.{Atoms, sem}
 use contract.Monad.{Fun}
-use types.Kit.{Given, Item, ‵, raw, _⊛_, Goal, Seq, _$_, _∵_, !, qed, rewrite, regoal, move, split, join, fjoin, frame, done}
+use types.Kit.{Given, Item, ‵, raw, _⊛_, Goal, Seq, _$_, _∵_, !, qed, regoal, move, split, join, fjoin, frame, done}
 use types.Run.{Opds}
 use denote.Laws.{Is, Makes}
 use denote.Plain.{uint-makes}

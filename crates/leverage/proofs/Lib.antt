@@ -6,3 +6,5 @@ pub mod FilingLaws
 pub mod CaseLaws
 pub mod LeverageCalls
 pub mod LentArray
+pub mod PackLaws
+pub mod GivenAway

@@ -1,6 +1,6 @@
 -- Document 01, "Where an answer is an enum, the promises use a definition": the number, place and verdict of each case; and the stages of
 -- a filing as the code has them. Assumes nothing.
-use Prim.Native.Nat.{ℕ, zero, suc, _^_}
+use Prim.Native.Nat.{ℕ, _+_, _*_, _%_, _^_}
 use mathlib.Core.Bool.{Bool, true, false, cond}
 use mathlib.Core.List.{List, _++_}
 use lib.Dec.{eqb, ltb}
@@ -99,3 +99,11 @@ pub record Seen : Type 0 where
 
 abbrev pub seen : Filing → Seen
 seen f = record { number = f .number; place = f .place; verdict = f .verdict; rows = f .rows }
+
+-- ---- an answer in one number, for callers in C: the number, then the verdict from bit 8 and the place from bit 16 on
+
+abbrev pub packedAnswer : Answer → ℕ
+packedAnswer r = numberIn r + 256 * verdictOfAnswer r + 65536 * (placeIn r % 4294967296)
+
+abbrev pub packed : Filing → ℕ
+packed f = f .number + 256 * f .verdict + 65536 * (f .place % 4294967296)

@@ -4,6 +4,7 @@ use rules::Sums;
 pub mod admit;
 pub mod alone;
 mod early;
+pub mod export;
 pub mod file;
 mod report;
 mod stages;

@@ -2,6 +2,7 @@
 // cite are in proofs/. The structs here are those that both the definitions and the code speak of.
 
 // An entry of the register: a bought protection, and how much of it no cover has drawn yet.
+#[repr(C)]
 pub struct Entry {
     pub entity: u32,
     pub rank: u32,

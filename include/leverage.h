@@ -1,0 +1,100 @@
+/*
+ * The filing of a leverage book, for C. Link with libleverage.a (`rt staticlib leverage`), x86-64.
+ *
+ * Example (include/example.c is the same, and prints more):
+ *
+ *     #include <stdio.h>
+ *     #include "leverage.h"
+ *
+ *     int main(void) {
+ *         uint32_t book[] = {0x10000000, 0x00000032, 0x20000000, 0x000003E8, 0x00000014, 0x0000000A, 0xF0000006};
+ *         int64_t rows[LEVERAGE_ROWS] = {0};
+ *         struct leverage_entry reg[16] = {{0, 0, 0, 0}};
+ *         uint64_t a = leverage_file(book, 7, rows, LEVERAGE_ROWS, reg, 16);
+ *         if (leverage_number(a) != LEVERAGE_ACCEPTED)
+ *             printf("refused %u at %u\n", leverage_number(a), leverage_place(a));
+ *         else
+ *             printf("verdict %u\n", leverage_verdict(a));
+ *         return 0;
+ *     }
+ */
+#ifndef LEVERAGE_H
+#define LEVERAGE_H
+
+#include <stddef.h>
+#include <stdint.h>
+
+#ifdef __cplusplus
+extern "C" {
+#endif
+
+/* An entry of the register: a bought protection, and how much of it no cover has drawn yet. */
+struct leverage_entry {
+    uint32_t entity;
+    uint32_t rank; /* larger is more junior */
+    uint32_t days;
+    uint32_t left;
+};
+
+/* The rows that a filing writes; row k of the template is rows[k - 1], in thousandths of the book's unit (row 22 in basis points). */
+#define LEVERAGE_ROWS 22
+
+/* The most words that a book may have, and the most entries that a book can use. */
+#define LEVERAGE_WORDS 1048576
+#define LEVERAGE_ENTRIES 4096
+
+/* Why a book is refused. The first four come in this order; then the first faulty record decides, its causes in this order. */
+enum leverage_cause {
+    LEVERAGE_ACCEPTED = 0,
+    LEVERAGE_ROWS_SHORT = 1,      /* rows shorter than 22 */
+    LEVERAGE_BOOK_LONG = 2,       /* book too long */
+    LEVERAGE_HEAD = 3,            /* under two words, no good head word or Tier 1 word */
+    LEVERAGE_REGISTER_SHORT = 4,  /* register shorter than the head's count b of protections */
+    LEVERAGE_KIND = 5,            /* kind not allowed here */
+    LEVERAGE_WORDS_SHORT = 6,     /* too few words, or an amount not of kind 0 */
+    LEVERAGE_PAYLOAD = 7,         /* payload faulty in its own bits */
+    LEVERAGE_AMOUNT = 8,          /* amount faulty by itself, zero cover */
+    LEVERAGE_AMOUNTS = 9,         /* amounts against each other, their payload or their set's head */
+    LEVERAGE_DAYS_FALL = 10,      /* settlement days fall */
+    LEVERAGE_COVER_PLACE = 11,    /* cover's place not below b */
+    LEVERAGE_COVER_UNFIT = 12,    /* entity, rank or days unfit */
+    LEVERAGE_COVER_BEYOND = 13,   /* cover beyond either amount */
+    LEVERAGE_END = 14             /* no end word, wrong count, words after it */
+};
+
+/* What an accepted book comes to. */
+enum leverage_outcome {
+    LEVERAGE_ENOUGH = 0,      /* Tier 1 is at least 3 per cent of the exposure */
+    LEVERAGE_TOO_LITTLE = 1,
+    LEVERAGE_NO_EXPOSURE = 2, /* row 21 is 0 */
+    LEVERAGE_REFUSED = 3      /* no verdict */
+};
+
+/*
+ * Files a book.
+ *
+ * Answers number, verdict and place in one number:
+ *     bits 0 to 7     the number: 0 where the book is accepted, otherwise why it is refused
+ *     bits 8 to 15    the verdict: 3 where the book is refused
+ *     bits 16 to 47   the place: the index of the faulty record's first word (the length, where words run out); 0 for numbers 0 to 4
+ * The bits above are 0.
+ *
+ * Accepted: the first 22 rows are written, and entry i below b holds protection i and what is left of it.
+ * Refused: the rows are as they were; from number 5 on the first b entries are all zero, below it the register is as it was.
+ * Rows from 22 on and entries from b on are never written. What rows and register held before does not matter.
+ *
+ * The lengths are in elements and of any size. Each pointer is aligned, not null (for length 0 too), and leads to that many initialised
+ * elements; no two of the three overlap, and nothing else uses them during the call. Nothing is kept after it. No memory is allocated.
+ */
+uint64_t leverage_file(const uint32_t *book, size_t book_len, int64_t *rows, size_t rows_len, struct leverage_entry *reg, size_t reg_len);
+
+/* The parts of an answer. */
+static inline uint32_t leverage_number(uint64_t answer) { return (uint32_t)(answer & 0xFF); }
+static inline uint32_t leverage_verdict(uint64_t answer) { return (uint32_t)((answer >> 8) & 0xFF); }
+static inline uint32_t leverage_place(uint64_t answer) { return (uint32_t)(answer >> 16); }
+
+#ifdef __cplusplus
+}
+#endif
+
+#endif
