@@ -1,0 +1,191 @@
+//! The same filing written for speed: one pass, unsigned sums, no allocation.
+//! It shares only the types of the boundary with the model.
+
+mod derivatives;
+mod financing;
+mod sums;
+
+use crate::model::{Answer, Entry, LONGEST_BOOK, NO_VERDICT, ROWS};
+use derivatives::derivative_set;
+use financing::financing_set;
+use sums::Sums;
+
+/// Conversion figures by class; 0 stands for a class that is faulty.
+const CONVERSION: [u64; 16] = [
+    200, 500, 100, 1000, 1000, 500, 500, 200, 1000, 500, 100, 0, 0, 0, 0, 0,
+];
+
+/// The same for the item committed to, one place later: none lowers nothing.
+const COMMITTED: [u64; 16] = [
+    1000, 200, 500, 100, 1000, 1000, 500, 500, 200, 1000, 500, 100, 0, 0, 0, 0,
+];
+
+/// The sign of an amount; alone it is minus zero.
+const SIGN: u32 = 1 << 27;
+
+struct Fault {
+    number: u32,
+    place: usize,
+}
+
+type Outcome<T> = Result<T, Fault>;
+
+#[inline(always)]
+fn check(fine: bool, number: u32, place: usize) -> Outcome<()> {
+    if fine {
+        Ok(())
+    } else {
+        Err(Fault { number, place })
+    }
+}
+
+pub fn file(book: &[u32], rows: &mut [i64], register: &mut [Entry]) -> Answer {
+    match filing(book, rows, register) {
+        Ok(verdict) => Answer {
+            number: 0,
+            place: 0,
+            verdict,
+        },
+        Err(Fault { number, place }) => Answer {
+            number,
+            place,
+            verdict: NO_VERDICT,
+        },
+    }
+}
+
+fn filing(book: &[u32], rows: &mut [i64], register: &mut [Entry]) -> Outcome<u32> {
+    check(rows.len() >= ROWS, 1, 0)?;
+    check(book.len() <= LONGEST_BOOK, 2, 0)?;
+    let &[head, tier1, ..] = book else {
+        return Err(Fault {
+            number: 3,
+            place: 0,
+        });
+    };
+    let protections = (head & 0x0FFF_FFFF) as usize;
+    let good_head = head >> 28 == 1 && protections <= 4096 && tier1 >> 28 == 0 && tier1 != SIGN;
+    check(good_head, 3, 0)?;
+    check(register.len() >= protections, 4, 0)?;
+
+    let register = &mut register[..protections];
+    let mut sums = Sums::default();
+    let read = load(book, register).and_then(|items| read_items(book, items, register, &mut sums));
+    if let Err(fault) = read {
+        register.fill(Entry::default());
+        return Err(fault);
+    }
+    let (gathered, verdict) = sums.rows(signed(tier1));
+    rows[..ROWS].copy_from_slice(&gathered);
+    Ok(verdict)
+}
+
+/// Signs are as good as random in a book, so no branch hangs on them.
+#[inline(always)]
+fn signed(word: u32) -> i64 {
+    let size = i64::from(word & (SIGN - 1));
+    let sign = -i64::from(word >> 27 & 1);
+    (size ^ sign) - sign
+}
+
+/// The amounts behind the word at `place`, all of kind 0, or cause 6.
+#[inline(always)]
+fn amounts<const COUNT: usize>(book: &[u32], place: usize) -> Outcome<&[u32; COUNT]> {
+    match book[place + 1..].first_chunk::<COUNT>() {
+        Some(words) if any_bit(words) >> 28 == 0 => Ok(words),
+        _ => Err(Fault { number: 6, place }),
+    }
+}
+
+#[inline(always)]
+fn any_bit(words: &[u32]) -> u32 {
+    words.iter().fold(0, |all, word| all | word)
+}
+
+/// Reads the protections into the register; returns where the items begin.
+fn load(book: &[u32], register: &mut [Entry]) -> Outcome<usize> {
+    let mut place = 2;
+    for entry in register {
+        let Some(&word) = book.get(place) else {
+            return Err(Fault { number: 14, place });
+        };
+        check(word >> 28 == 3, 5, place)?;
+        let &[notional, gain, days] = amounts(book, place)?;
+        check(word & 0x0FF0_0000 == 0, 7, place)?;
+        let plain = (notional | gain) < SIGN && days <= 0xFFFF;
+        check(plain, 8, place)?;
+        check(gain <= notional, 9, place)?;
+        *entry = Entry {
+            entity: word & 0xFFFF,
+            rank: word >> 16 & 0xF,
+            days,
+            left: notional - gain,
+        };
+        place += 4;
+    }
+    Ok(place)
+}
+
+fn read_items(
+    book: &[u32],
+    mut place: usize,
+    register: &mut [Entry],
+    sums: &mut Sums,
+) -> Outcome<()> {
+    while let Some(&word) = book.get(place) {
+        match word >> 28 {
+            2 => place = assets(book, place, sums)?,
+            4 => place = derivative_set(book, place, word, register, sums)?,
+            8 => place = financing_set(book, place, word, sums)?,
+            10 => place = off_balance(book, place, sums)?,
+            15 => {
+                let counted = (word & 0x0FFF_FFFF) as usize == place;
+                return check(counted && place + 1 == book.len(), 14, place);
+            }
+            _ => return Err(Fault { number: 5, place }),
+        }
+    }
+    Err(Fault { number: 14, place })
+}
+
+/// The word at `place` if it is there and of this kind.
+#[inline(always)]
+fn of_kind(book: &[u32], place: usize, kind: u32) -> Option<u32> {
+    book.get(place).copied().filter(|word| word >> 28 == kind)
+}
+
+/// A run of assets; like items stand together, so their sums stay at hand.
+fn assets(book: &[u32], mut place: usize, sums: &mut Sums) -> Outcome<usize> {
+    let (mut total_carried, mut total_deducted) = (0, 0);
+    while let Some(word) = of_kind(book, place, 2) {
+        let &[carrying, provision, deducted] = amounts(book, place)?;
+        check(word & 0x0FFF_FFFE == 0, 7, place)?;
+        check((carrying | provision | deducted) < SIGN, 8, place)?;
+        check(provision + deducted <= carrying, 9, place)?;
+        let counts = u64::from(!word & 1);
+        total_carried += counts * u64::from(carrying - provision);
+        total_deducted += counts * u64::from(deducted);
+        place += 4;
+    }
+    sums.carried += total_carried;
+    sums.deducted += total_deducted;
+    Ok(place)
+}
+
+/// A run of off-balance items.
+fn off_balance(book: &[u32], mut place: usize, sums: &mut Sums) -> Outcome<usize> {
+    let (mut total, mut converted) = (0, 0);
+    while let Some(word) = of_kind(book, place, 10) {
+        let &[notional] = amounts(book, place)?;
+        let own = CONVERSION[(word & 0xF) as usize];
+        let figure = own.min(COMMITTED[(word >> 4 & 0xF) as usize]);
+        check(word & 0x0FFF_FF00 == 0 && figure != 0, 7, place)?;
+        check(notional < SIGN, 8, place)?;
+        total += u64::from(notional);
+        converted += figure * u64::from(notional);
+        place += 2;
+    }
+    sums.off_balance += total;
+    sums.converted += converted;
+    Ok(place)
+}

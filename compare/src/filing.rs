@@ -1,0 +1,127 @@
+//! Dirty buffers, lent to one filing after another.
+
+use crate::generate::Random;
+use crate::model::{Answer, Entry, ROWS};
+
+const MOST_ROWS: usize = 40;
+/// Somewhat more than the largest count of protections.
+const MOST_ENTRIES: usize = 4_200;
+
+/// How much of the buffers a filing is lent.
+#[derive(Clone, Copy, Debug)]
+pub struct Lengths {
+    pub rows: usize,
+    pub register: usize,
+}
+
+impl Lengths {
+    /// Mostly enough for the book, sometimes short by one or more.
+    pub fn choose(book: &[u32], random: &mut Random) -> Self {
+        let rows = if random.one_in(50) {
+            random.index(ROWS)
+        } else {
+            random.between(ROWS as u32, MOST_ROWS as u32) as usize
+        };
+        let head = book.first().map_or(0, |word| word & 0x0FFF_FFFF);
+        let needed = (head as usize).min(MOST_ENTRIES);
+        let register = match random.below(40) {
+            0 => needed.saturating_sub(1),
+            1 => random.index(needed + 1),
+            2..=20 => needed,
+            21..=36 => needed + random.index(5),
+            _ => random.index(MOST_ENTRIES + 1).max(needed),
+        };
+        Lengths {
+            rows,
+            register: register.min(MOST_ENTRIES),
+        }
+    }
+}
+
+/// One side's buffers; what a book leaves in them meets the next book.
+#[derive(Clone, PartialEq)]
+pub struct Buffers {
+    pub rows: Vec<i64>,
+    pub register: Vec<Entry>,
+}
+
+impl Buffers {
+    pub fn dirty(random: &mut Random) -> Self {
+        let row = |_| random.next() as i64;
+        let rows = (0..MOST_ROWS).map(row).collect();
+        let entry = |_| Entry {
+            entity: random.word(),
+            rank: random.word(),
+            days: random.word(),
+            left: random.word(),
+        };
+        let register = (0..MOST_ENTRIES).map(entry).collect();
+        Buffers { rows, register }
+    }
+
+    pub fn file(&mut self, book: &[u32], lengths: Lengths, filing: Filing) -> Answer {
+        let rows = &mut self.rows[..lengths.rows];
+        let register = &mut self.register[..lengths.register];
+        filing(book, rows, register)
+    }
+
+    /// The first difference between two sides, in words.
+    pub fn difference(&self, other: &Buffers) -> Option<String> {
+        let differ = |a: &[i64], b: &[i64]| a.iter().zip(b).position(|(a, b)| a != b);
+        if let Some(index) = differ(&self.rows, &other.rows) {
+            let (ours, theirs) = (self.rows[index], other.rows[index]);
+            return Some(format!("row {}: {ours} against {theirs}", index + 1));
+        }
+        let mut entries = self.register.iter().zip(&other.register);
+        let index = entries.position(|(ours, theirs)| ours != theirs)?;
+        let (ours, theirs) = (self.register[index], other.register[index]);
+        Some(format!("entry {index}: {ours:?} against {theirs:?}"))
+    }
+}
+
+pub type Filing = fn(&[u32], &mut [i64], &mut [Entry]) -> Answer;
+
+/// How often each answer came: by number, and by verdict where accepted.
+#[derive(Default)]
+pub struct Counts {
+    pub numbers: [u64; 15],
+    pub verdicts: [u64; 3],
+}
+
+impl Counts {
+    pub fn add(&mut self, answer: &Answer) {
+        self.numbers[answer.number as usize] += 1;
+        if answer.number == 0 {
+            self.verdicts[answer.verdict as usize] += 1;
+        }
+    }
+
+    pub fn print(&self) {
+        println!("accepted {}", self.numbers[0]);
+        for (verdict, count) in self.verdicts.iter().enumerate() {
+            println!("  verdict {verdict}: {count}");
+        }
+        for (number, count) in self.numbers.iter().enumerate().skip(1) {
+            println!("refused {number}: {count}");
+        }
+    }
+
+    /// The first number that never came.
+    pub fn missing(&self) -> Option<usize> {
+        self.numbers.iter().position(|&count| count == 0)
+    }
+}
+
+/// A book as hexadecimal words, for the reader of a failure.
+pub fn hexadecimal(book: &[u32]) -> String {
+    const SHOWN: usize = 20_000;
+    let mut text: Vec<String> = book
+        .iter()
+        .take(SHOWN)
+        .map(|word| format!("0x{word:08X}"))
+        .collect();
+    if book.len() > SHOWN {
+        text.push(format!("... of {} words", book.len()));
+    }
+    text.join(" ")
+}

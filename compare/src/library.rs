@@ -1,0 +1,35 @@
+//! The library's boundary, and the only unsafe code of the package.
+
+use crate::model::{Answer, Entry};
+
+extern "C" {
+    fn leverage_file(
+        book: *const u32,
+        book_len: usize,
+        rows: *mut i64,
+        rows_len: usize,
+        register: *mut Entry,
+        register_len: usize,
+    ) -> u64;
+}
+
+pub fn file(book: &[u32], rows: &mut [i64], register: &mut [Entry]) -> Answer {
+    // SAFETY: each pointer comes with the length of its own slice, the slices
+    // do not overlap, `Entry` has the layout of the C struct, and the library
+    // keeps none of the pointers.
+    let packed = unsafe {
+        leverage_file(
+            book.as_ptr(),
+            book.len(),
+            rows.as_mut_ptr(),
+            rows.len(),
+            register.as_mut_ptr(),
+            register.len(),
+        )
+    };
+    Answer {
+        number: (packed & 0xFF) as u32,
+        place: (packed >> 16) as usize,
+        verdict: (packed >> 8 & 0xFF) as u32,
+    }
+}

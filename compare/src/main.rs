@@ -1,0 +1,89 @@
+//! An independent implementation of the leverage book, and the means to
+//! compare another one with it.
+
+#![deny(unsafe_code)]
+
+#[cfg(feature = "library")]
+mod bench;
+mod cases;
+#[cfg(feature = "library")]
+mod comparison;
+mod fast;
+mod filing;
+mod generate;
+#[cfg(feature = "library")]
+#[allow(unsafe_code)]
+mod library;
+mod model;
+mod selftest;
+mod text;
+
+use std::io::{self, Write};
+use std::path::Path;
+use std::process::ExitCode;
+use std::{env, fs};
+
+const USAGE: &str = "\
+selftest N SEED    check the model on N generated books
+compare N SEED     compare the library with the model (feature `library`)
+bench              time the library and Rust (feature `library`)
+text FILE          turn a text book into little-endian words on standard output
+cases N SEED DIR   write N books and the answers expected of them";
+
+fn main() -> ExitCode {
+    let arguments: Vec<String> = env::args().skip(1).collect();
+    let arguments: Vec<&str> = arguments.iter().map(String::as_str).collect();
+    match run(&arguments) {
+        Ok(()) => ExitCode::SUCCESS,
+        Err(message) => {
+            eprintln!("{message}");
+            ExitCode::FAILURE
+        }
+    }
+}
+
+fn run(arguments: &[&str]) -> Result<(), String> {
+    match *arguments {
+        ["selftest", books, seed] => selftest::run(number(books)?, number(seed)?),
+        ["compare", books, seed] => compare(number(books)?, number(seed)?),
+        ["bench"] => bench(),
+        ["text", file] => print_words(file),
+        ["cases", books, seed, folder] => {
+            cases::write(number(books)?, number(seed)?, Path::new(folder))
+        }
+        _ => Err(USAGE.to_string()),
+    }
+}
+
+fn number(text: &str) -> Result<u64, String> {
+    text.parse().map_err(|error| format!("{text}: {error}"))
+}
+
+fn print_words(file: &str) -> Result<(), String> {
+    let source = fs::read_to_string(file).map_err(|error| format!("{file}: {error}"))?;
+    let words = text::words(&source).map_err(|error| format!("{file}: {error}"))?;
+    let bytes: Vec<u8> = words.iter().flat_map(|word| word.to_le_bytes()).collect();
+    let written = io::stdout().write_all(&bytes);
+    written.map_err(|error| error.to_string())
+}
+
+#[cfg(feature = "library")]
+fn compare(books: u64, seed: u64) -> Result<(), String> {
+    comparison::run(books, seed)
+}
+
+#[cfg(feature = "library")]
+fn bench() -> Result<(), String> {
+    bench::run();
+    Ok(())
+}
+
+#[cfg(not(feature = "library"))]
+fn compare(_books: u64, _seed: u64) -> Result<(), String> {
+    Err("built without the feature `library`".to_string())
+}
+
+#[cfg(not(feature = "library"))]
+fn bench() -> Result<(), String> {
+    Err("built without the feature `library`".to_string())
+}

@@ -1,0 +1,195 @@
+//! The pass over a book: record after record, with the register at hand.
+
+use super::records::{
+    Asset, Cover, DerivativeHead, FinancingHead, FinancingTrade, Head, OffBalance, Protection,
+    Record, Trade, WrittenCredit,
+};
+use super::refusal::{Cause, Refusal};
+use super::template::Template;
+use super::weighing::{DerivativeTally, FinancingTally};
+use super::words::{kind, kinds, Payload};
+use super::Entry;
+
+pub struct Audit<'a> {
+    book: &'a [u32],
+    /// Where the next record begins.
+    next: usize,
+    /// Where the record in hand begins: the place of any fault found in it.
+    in_hand: usize,
+    /// One entry per protection, as far as they have been read.
+    register: &'a mut [Entry],
+    template: Template,
+}
+
+impl<'a> Audit<'a> {
+    pub fn new(book: &'a [u32], register: &'a mut [Entry]) -> Self {
+        Audit {
+            book,
+            next: Head::WORDS,
+            in_hand: 0,
+            register,
+            template: Template::default(),
+        }
+    }
+
+    pub fn run(mut self, head: &Head) -> Result<Template, Refusal> {
+        self.template = Template::new(head.tier1);
+        self.protections()?;
+        self.items()?;
+        self.template.close();
+        Ok(self.template)
+    }
+
+    /// The kind of the next word, none at the end of the book.
+    fn next_kind(&self) -> Option<u32> {
+        self.book.get(self.next).map(|&word| kind(word))
+    }
+
+    /// The same where a record is due: words running out are a missing end.
+    fn due_kind(&mut self) -> Result<u32, Refusal> {
+        self.in_hand = self.next;
+        self.next_kind().ok_or(self.refuse(Cause::EndFaulty))
+    }
+
+    fn refuse(&self, cause: Cause) -> Refusal {
+        Refusal {
+            cause,
+            place: self.in_hand,
+        }
+    }
+
+    /// Judges the record in hand further than it could be by itself.
+    fn require(&self, cause: Cause, condition: bool) -> Result<(), Refusal> {
+        cause.unless(condition).map_err(|cause| self.refuse(cause))
+    }
+
+    /// Reads the record that begins here and moves behind it.
+    fn record<const AMOUNTS: usize, R: Record<AMOUNTS>>(&mut self) -> Result<R, Refusal> {
+        self.in_hand = self.next;
+        let (first, rest) = self.book[self.in_hand..]
+            .split_first()
+            .ok_or(self.refuse(Cause::EndFaulty))?;
+        let amounts = *rest
+            .first_chunk::<AMOUNTS>()
+            .ok_or(self.refuse(Cause::AmountMissing))?;
+        let all_amounts = amounts.iter().all(|&word| kind(word) == kinds::AMOUNT);
+        self.require(Cause::AmountMissing, all_amounts)?;
+        self.next += 1 + AMOUNTS;
+        R::read(Payload::of(*first), amounts).map_err(|cause| self.refuse(cause))
+    }
+
+    fn protections(&mut self) -> Result<(), Refusal> {
+        for index in 0..self.register.len() {
+            let kind = self.due_kind()?;
+            self.require(Cause::KindNotAllowed, kind == kinds::PROTECTION)?;
+            let protection: Protection = self.record()?;
+            self.register[index] = Entry {
+                entity: protection.entity,
+                rank: protection.rank,
+                days: word_sized(protection.days),
+                left: word_sized(protection.available),
+            };
+        }
+        Ok(())
+    }
+
+    fn items(&mut self) -> Result<(), Refusal> {
+        loop {
+            match self.due_kind()? {
+                kinds::ASSET => self.asset()?,
+                kinds::DERIVATIVE_SET => self.derivative_set()?,
+                kinds::FINANCING_SET => self.financing_set()?,
+                kinds::OFF_BALANCE => self.off_balance()?,
+                kinds::END => return self.end(),
+                _ => return Err(self.refuse(Cause::KindNotAllowed)),
+            }
+        }
+    }
+
+    fn asset(&mut self) -> Result<(), Refusal> {
+        let asset: Asset = self.record()?;
+        self.template.asset(&asset);
+        Ok(())
+    }
+
+    /// A set runs until a word that is none of its members; that word is
+    /// judged as an item by the caller.
+    fn derivative_set(&mut self) -> Result<(), Refusal> {
+        let head: DerivativeHead = self.record()?;
+        let mut tally = DerivativeTally::default();
+        loop {
+            match self.next_kind() {
+                Some(kinds::TRADE) => {
+                    let trade: Trade = self.record()?;
+                    tally.trade(&trade);
+                }
+                Some(kinds::WRITTEN_CREDIT) => {
+                    let credit: WrittenCredit = self.record()?;
+                    let covered = self.covers(&credit)?;
+                    self.template.written(&credit);
+                    tally.written(&credit, covered);
+                }
+                _ => break,
+            }
+        }
+        self.template.derivatives(&head, &tally.weigh(&head));
+        Ok(())
+    }
+
+    /// Reads the covers behind a written credit; true if there is any.
+    fn covers(&mut self, credit: &WrittenCredit) -> Result<bool, Refusal> {
+        let whole = credit.notional - credit.loss;
+        let mut open = whole;
+        while self.next_kind() == Some(kinds::COVER) {
+            let cover: Cover = self.record()?;
+            let Some(&entry) = self.register.get(cover.protection) else {
+                return Err(self.refuse(Cause::NoSuchProtection));
+            };
+            let fit = entry.entity == credit.entity
+                && entry.rank >= credit.rank
+                && i64::from(entry.days) >= credit.days;
+            self.require(Cause::ProtectionUnfit, fit)?;
+            let left = i64::from(entry.left) - cover.amount;
+            self.require(Cause::CoverTooLarge, left >= 0 && cover.amount <= open)?;
+
+            self.register[cover.protection].left = word_sized(left);
+            open -= cover.amount;
+            self.template.cover(cover.amount);
+        }
+        // A cover is at least 1, so any cover leaves less open.
+        Ok(open < whole)
+    }
+
+    fn financing_set(&mut self) -> Result<(), Refusal> {
+        let head: FinancingHead = self.record()?;
+        let mut tally = FinancingTally::default();
+        let mut days_before = 0;
+        while self.next_kind() == Some(kinds::FINANCING_TRADE) {
+            let trade: FinancingTrade = self.record()?;
+            self.require(Cause::AmountsDisagree, trade.fits(&head))?;
+            self.require(Cause::DaysFall, trade.days >= days_before)?;
+            days_before = trade.days;
+            tally.trade(&trade);
+        }
+        self.template.financing(&head, &tally.weigh(&head));
+        Ok(())
+    }
+
+    fn off_balance(&mut self) -> Result<(), Refusal> {
+        let item: OffBalance = self.record()?;
+        self.template.off_balance(&item);
+        Ok(())
+    }
+
+    /// The end word counts the words before it, and is the last.
+    fn end(&mut self) -> Result<(), Refusal> {
+        let counted = Payload::of(self.book[self.in_hand]).value() as usize;
+        let last = self.in_hand + 1 == self.book.len();
+        self.require(Cause::EndFaulty, last && counted == self.in_hand)
+    }
+}
+
+/// Amounts and days that were read from a word fit into one again.
+fn word_sized(number: i64) -> u32 {
+    u32::try_from(number).expect("an amount read from a word, not negative")
+}

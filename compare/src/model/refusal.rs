@@ -1,0 +1,42 @@
+//! Why and where a book is turned away.
+
+/// The causes in the order of the paper's table.
+#[derive(Clone, Copy, PartialEq, Eq, Debug)]
+pub enum Cause {
+    RowsTooShort = 1,
+    BookTooLong = 2,
+    NoHead = 3,
+    RegisterTooShort = 4,
+    KindNotAllowed = 5,
+    AmountMissing = 6,
+    PayloadFaulty = 7,
+    AmountFaulty = 8,
+    AmountsDisagree = 9,
+    DaysFall = 10,
+    NoSuchProtection = 11,
+    ProtectionUnfit = 12,
+    CoverTooLarge = 13,
+    EndFaulty = 14,
+}
+
+impl Cause {
+    pub fn number(self) -> u32 {
+        self as u32
+    }
+
+    /// `Ok` where the condition holds, otherwise this cause.
+    pub fn unless(self, condition: bool) -> Result<(), Cause> {
+        if condition {
+            Ok(())
+        } else {
+            Err(self)
+        }
+    }
+}
+
+/// A cause with the index of the faulty record's first word.
+#[derive(Clone, Copy, PartialEq, Eq, Debug)]
+pub struct Refusal {
+    pub cause: Cause,
+    pub place: usize,
+}
