@@ -8,7 +8,7 @@ COMPARE = target/compare/release/compare
 
 .PHONY: run test compare bench library
 run:
-	@rt check leverage_print > /dev/null
+	@rt check leverage_print > /dev/null 2>&1 || rt check leverage_print
 	@target/bin/leverage_print < crates/leverage_print/stdin
 
 test:
@@ -16,7 +16,7 @@ test:
 	@rt ci
 
 library:
-	@rt staticlib leverage > /dev/null
+	@rt staticlib leverage > /dev/null 2>&1 || rt staticlib leverage
 	@cd compare && LEVERAGE_LIB="$(CURDIR)/target/staticlib" cargo build -q --release --offline --features library --target-dir ../target/compare
 
 compare: library
