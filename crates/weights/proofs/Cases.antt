@@ -1,11 +1,12 @@
 -- The band, the factor of a market trade and the conversion figure at each of their cases, as the code tells them apart: by orders
 -- of numbers. Assumes nothing.
-use mathlib.Core.Path.{_≡_, refl}
-use mathlib.Core.Bool.{Bool, true, false, _&&_}
+use mathlib.Core.Path.{_≡_, refl, sym}
+use mathlib.Core.Bool.{Bool, true, false, cond, _&&_}
 use Prim.Native.Nat.{ℕ, max, min, _-_, _≤_, _<_}
+use native.Mathlib.Nat.{zero-max}
 use native.Mathlib.Omega.{arith}
-use borrow.Author.Tests.{le-leb, lt-leb, lt-ltb, le-ltb, eq-eqb, ne-eqb}
-use lib.Dec.{eqb}
+use borrow.Author.Tests.{le-leb, lt-leb, eq-eqb, ne-eqb}
+use lib.Dec.{eqb, ltb}
 use Rattle.rules.specs.declared.Bands.{Bands}
 use Rattle.rules.specs.Factors.{bandOf, factorAt, marketFactor, conversionAt, conversionOf}
 
@@ -23,30 +24,19 @@ module _ (bands : Bands) (days : ℕ) where
 
 -- ---- the factor of a market trade
 
-and-false : (b : Bool) → (b && false) ≡ false
-and-false true = refl
-and-false false = refl
-
-module _ (bands : Bands) (class : ℕ) (resets : Bool) (days reset : ℕ) where
-  pub market-plain : resets ≡ false → marketFactor bands class resets days reset ≡ factorAt class (bandOf bands days)
+-- the days choose the band, and the larger of two figures applies
+module _ (bands : Bands) (class days reset : ℕ) where
+  pub market-larger :
+      (resets : Bool)
+      → marketFactor bands class resets days reset
+      ≡ max (cond (resets && (eqb class 0 && ltb (bands .short) days)) 5 0) (factorAt class (bandOf bands (cond resets reset days)))
   unfolding marketFactor
-  market-plain r = simp r
-
-  pub market-other : resets ≡ true → 0 < class → marketFactor bands class resets days reset ≡ factorAt class (bandOf bands reset)
-  unfolding marketFactor
-  market-other r h = simp (r, ne-eqb class 0 (omega arith))
-
-  pub market-near :
-      resets ≡ true → days ≤ bands .short → marketFactor bands class resets days reset ≡ factorAt class (bandOf bands reset)
-  unfolding marketFactor
-  market-near r h = simp (r, le-ltb (bands .short) days h, and-false (eqb class 0))
-
-  -- the days remaining decide whether the 5 applies
-  pub market-floor :
-      resets ≡ true → class ≡ 0 → bands .short < days
-      → marketFactor bands class resets days reset ≡ max 5 (factorAt class (bandOf bands reset))
-  unfolding marketFactor
-  market-floor r e h = simp (r, eq-eqb class 0 e, lt-ltb (bands .short) days h)
+  market-larger false = sym (zero-max _)
+  market-larger true = floored (eqb class 0 && ltb (bands .short) days) (factorAt class (bandOf bands reset))
+    where
+      floored : (b : Bool) (figure : ℕ) → cond b (max 5 figure) figure ≡ max (cond b 5 0) figure
+      floored true figure = refl
+      floored false figure = sym (zero-max figure)
 
 -- ---- conversion
 

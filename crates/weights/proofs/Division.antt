@@ -9,6 +9,10 @@ use lib.Arith.{digits-div, digits-mod}
 pub share-le : (x p q : ℕ) → p ≤ q → x * p / q ≤ x
 share-le x p q h = div-le-of-le-mul q (omega (arith, mul-le-mul-left x h))
 
+-- the product fits where it would fit with the whole
+pub product-le : (x p q most : ℕ) → p ≤ q → x ≤ most / q → x * p ≤ most
+product-le x p q most h e = omega (arith, mul-le-mul-left x h, mul-le-mul-right q e, div-add-mod' most q)
+
 -- the part of an odd x is counted at most once
 pub part-le : (x p : ℕ) → x % 2 * p ≤ p
 part-le x p =

@@ -4,7 +4,7 @@ ghost use Rattle.rules.specs.Factors.{conversionAt, conversionOf};
 
 // commitment to one year, longer, cancellable, credit substitute, forward purchase, transaction contingency, note facility,
 // trade letter, securitisation, eligible liquidity, servicer advance
-const CONVERSIONS: [u32; 11] = [200, 500, 100, 1000, 1000, 500, 500, 200, 1000, 500, 100];
+const CONVERSIONS: [u16; 11] = [200, 500, 100, 1000, 1000, 500, 500, 200, 1000, 500, 100];
 
 // The figure of a class, per thousand; 0 for a class beyond the table.
 pub fn conversion_at(class: u32) -> u32
@@ -12,9 +12,15 @@ pub fn conversion_at(class: u32) -> u32
 {
     let place = class as usize;
     if place < 11 {
-        return CONVERSIONS[place];
+        return figure(CONVERSIONS[place]);
     }
     0
+}
+
+fn figure(x: u16) -> u32
+    ensures { λ r. ⌜ r ≡ x ⌝ }
+{
+    x as u32
 }
 
 // "With bits 4-7 the lower of two applies": `committed` is 0, or one more than the class of the item committed to.

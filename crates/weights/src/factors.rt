@@ -1,11 +1,13 @@
 // The add-on factors of trades, per thousand of the notional (document 01, "Factors").
 use rules::Bands;
+ghost use mathlib.Core.Bool.{cond, _&&_};
 ghost use mathlib.Core.Path.{_≡_};
 ghost use Prim.Native.Nat.{max};
+ghost use lib.Dec.{eqb, ltb};
 ghost use Rattle.rules.specs.Factors.{bandOf, creditFactor, factorAt, marketFactor, tradeFactor};
 
 // A row for each class: rates, currency and gold, equity, other precious metals, other commodities; a column for each band.
-const FACTORS: [[u32; 3]; 5] = [
+const FACTORS: [[u8; 3]; 5] = [
     [0, 5, 15],
     [10, 50, 75],
     [60, 80, 100],
@@ -37,7 +39,13 @@ pub fn factor_at(class: u32, band: usize) -> u32
     if band >= 3 {
         return 0;
     }
-    FACTORS[row][band]
+    figure(FACTORS[row][band])
+}
+
+fn figure(x: u8) -> u32
+    ensures { λ r. ⌜ r ≡ x ⌝ }
+{
+    x as u32
 }
 
 // "Credit: 50 qualifying, 100 not"
@@ -47,22 +55,33 @@ pub fn credit_factor(qualifying: bool) -> u32
     if qualifying { 50 } else { 100 }
 }
 
-// "With bit 11 the reset days choose the band; a rates trade with more than 365 days remaining then has at least 5": the
-// remaining days decide whether the 5 applies, not the reset days.
+// "With bit 11 the reset days choose the band": the machine chooses between two numbers without a branch.
+fn deciding_days(resets: bool, days: u32, reset_days: u32) -> u32
+    ensures { λ r. ⌜ r ≡ cond resets «reset_days» days ⌝ }
+{
+    if resets { reset_days } else { days }
+}
+
+// "a rates trade with more than 365 days remaining then has at least 5": the remaining days decide whether the 5 applies, not the
+// reset days.
+fn least_factor(bands: Bands, class: u32, resets: bool, days: u32) -> u32
+    ensures { λ r. ⌜ r ≡ cond (resets && (eqb class 0 && ltb (bands .short) days)) 5 0 ⌝ }
+{
+    if class > 0 {
+        return 0;
+    }
+    if bands.short >= days {
+        return 0;
+    }
+    if resets { 5 } else { 0 }
+}
+
 pub fn market_factor(bands: Bands, class: u32, resets: bool, days: u32, reset_days: u32) -> u32
     ensures { λ r. ⌜ r ≡ marketFactor bands class resets days «reset_days» ⌝ }
 {
-    if !resets {
-        return factor_at(class, band(bands, days));
-    }
-    let figure = factor_at(class, band(bands, reset_days));
-    if class > 0 {
-        return figure;
-    }
-    if days > bands.short {
-        return larger(5, figure);
-    }
-    figure
+    let least = least_factor(bands, class, resets, days);
+    let figure = factor_at(class, band(bands, deciding_days(resets, days, reset_days)));
+    larger(least, figure)
 }
 
 fn larger(a: u32, b: u32) -> u32

@@ -9,15 +9,16 @@ pub struct Parts {
     pub remainder: u64,
 }
 
-// One step has no branch: the part of an odd x is counted 0 or 1 times.
+// Halves until the product fits 64 bits. One step has no branch: the part of an odd x is counted 0 or 1 times.
 pub fn share(x: u64, p: u64, q: u64) -> Parts
     requires { ⌜ (p ≤ q) × ((0 < q) × (q < 2 ^ 62)) ⌝ }
     ensures { λ r. ⌜ (r .quotient ≡ x * p / q) × (r .remainder ≡ x * p % q) ⌝ }
 {
-    if x == 0 {
+    if x <= 0xffffffffffffffff / q {
+        let product = x * p;
         return Parts {
-            quotient: 0,
-            remainder: 0,
+            quotient: product / q,
+            remainder: product % q,
         };
     }
     let half = share(x / 2, p, q);

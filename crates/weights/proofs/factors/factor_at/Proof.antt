@@ -1,5 +1,5 @@
 -- `factor_at` reads the table, and beyond it gives 0. Assumes nothing.
-use mathlib.Core.Path.{refl, sym}
+use mathlib.Core.Path.{sym}
 use native.Mathlib.Omega.{arith}
 use borrow.Author.Needs.{needs}
 use Rattle.weights.proofs.Beyond.{no-class, no-band}
@@ -16,29 +16,22 @@ returns-2 c =
     let a = c .before .before .args in
     sym (no-band (a .class) (a .band) (omega arith))
 
-mul-result : tie.Need-mul-result
-mul-result c = search needs
+mul-figure : tie.Need-mul-figure
+mul-figure c = search needs
 
-mul-result-2 : tie.Need-mul-result-2
-mul-result-2 c = search needs
+index-1-figure : tie.Need-index-1-figure
+index-1-figure c = search needs
 
-index-1-result : tie.Need-index-1-result
-index-1-result c = search needs
+index-2-figure : tie.Need-index-2-figure
+index-2-figure c = search needs
 
-index-2-result : tie.Need-index-2-result
-index-2-result c = search needs
+figure-requires : tie.Need-figure-requires
+figure-requires c κs = search needs
 
 returns-3 : tie.Need-returns-3
-returns-3 c = refl
+returns-3 c = c .figure .ensures
 
 pub factor-at-spec : {M : Type 1} → statement M
 factor-at-spec =
     tie.close
-    (tie.spec
-    returns
-    returns-2
-    mul-result
-    mul-result-2
-    index-1-result
-    index-2-result
-    returns-3)
+    (tie.spec returns returns-2 mul-figure index-1-figure index-2-figure figure-requires returns-3)

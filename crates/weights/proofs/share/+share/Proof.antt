@@ -1,9 +1,8 @@
--- `share` calls itself on x / 2, which is smaller while x is not 0. The step's equations are those of Division. Assumes nothing.
+-- `share` calls itself on x / 2, which is smaller: 0 is among the numbers whose product fits. The step's equations are those of Division. Assumes nothing.
 use mathlib.Core.Path.{refl}
 use Prim.Native.Nat.{ℕ, _/_, _<_}
-use native.Mathlib.Nat.{zero-mul, zero-div, zero-mod}
 use native.Mathlib.Omega.{arith}
-use Rattle.weights.proofs.Division.{share-le, part-le, Step, step}
+use Rattle.weights.proofs.Division.{share-le, part-le, product-le, Step, step}
 use borrow.Fn.Kinds.{In}
 use borrow.Fn.PlainCycle.{Measures, is, falls, and}
 use Rattle.weights.proofs.share.share.Reads as share
@@ -30,9 +29,26 @@ stepped t c =
     let r = c .share in
     step (a .x) (a .p) (a .q) (r .result .quotient) (r .result .remainder) (c .before .before .pre .1 .1 .0) (r .ensures .0) (r .ensures .1)
 
+share-div-if1 :
+    (t : ℕ) → share-lts.Need-div-if1 (share-below t, share.Post) (share-at t) share.Post
+share-div-if1 t c = omega arith
+
+share-mul-product :
+    (t : ℕ) → share-lts.Need-mul-product (share-below t, share.Post) (share-at t) share.Post
+share-mul-product t c =
+    let a = c .before .args in
+    omega (arith, product-le (a .x) (a .p) (a .q) 0xffffffffffffffff (c .before .pre .1 .0) (c .if1 .taken))
+
+share-div-t9 : (t : ℕ) → share-lts.Need-div-t9 (share-below t, share.Post) (share-at t) share.Post
+share-div-t9 t c = omega arith
+
+share-rem-t10 :
+    (t : ℕ) → share-lts.Need-rem-t10 (share-below t, share.Post) (share-at t) share.Post
+share-rem-t10 t c = omega arith
+
 share-returns :
     (t : ℕ) → share-lts.Need-returns (share-below t, share.Post) (share-at t) share.Post
-share-returns t c = simp (c .if1 .taken, zero-mul, zero-div, zero-mod) (refl, refl)
+share-returns t c = (refl, refl)
 
 share-share-requires :
     (t : ℕ) → share-lts.Need-share-requires (share-below t, share.Post) (share-at t) share.Post
@@ -59,18 +75,18 @@ share-mul-t7 t c =
     let s = c .before .before .before .before in
     omega (arith, share-le (s .args .x / 2) (s .args .p) (s .args .q) (s .pre .1 .0))
 
-share-div-t9 : (t : ℕ) → share-lts.Need-div-t9 (share-below t, share.Post) (share-at t) share.Post
-share-div-t9 t c = omega arith
+share-div-t12 : (t : ℕ) → share-lts.Need-div-t12 (share-below t, share.Post) (share-at t) share.Post
+share-div-t12 t c = omega arith
 
-share-add-t8 : (t : ℕ) → share-lts.Need-add-t8 (share-below t, share.Post) (share-at t) share.Post
-share-add-t8 t c =
+share-add-t11 : (t : ℕ) → share-lts.Need-add-t11 (share-below t, share.Post) (share-at t) share.Post
+share-add-t11 t c =
     let s = c .before .before .before .before in
     let a = s .args in
     omega (arith, stepped t (c .before .before), share-le (a .x) (a .p) (a .q) (s .pre .1 .0))
 
-share-rem-t10 :
-    (t : ℕ) → share-lts.Need-rem-t10 (share-below t, share.Post) (share-at t) share.Post
-share-rem-t10 t c = omega arith
+share-rem-t13 :
+    (t : ℕ) → share-lts.Need-rem-t13 (share-below t, share.Post) (share-at t) share.Post
+share-rem-t13 t c = omega arith
 
 share-returns-2 :
     (t : ℕ) → share-lts.Need-returns-2 (share-below t, share.Post) (share-at t) share.Post
@@ -86,13 +102,17 @@ pub +share-spec : {M : Type 1} → statement M
     (share-below t, share.Post)
     (share-at t)
     share.Post
+    (share-div-if1 t)
+    (share-mul-product t)
+    (share-div-t9 t)
+    (share-rem-t10 t)
     (share-returns t)
     (share-share-requires t)
     (share-mul-carried t)
     (share-mul-carried-2 t)
     (share-add-carried t)
     (share-mul-t7 t)
-    (share-div-t9 t)
-    (share-add-t8 t)
-    (share-rem-t10 t)
+    (share-div-t12 t)
+    (share-add-t11 t)
+    (share-rem-t13 t)
     (share-returns-2 t)
