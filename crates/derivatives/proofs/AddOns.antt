@@ -1,9 +1,9 @@
 -- How large the products of an add-on are, and what stays in of it. Assumes nothing.
-use Prim.Native.Nat.{ℕ, _*_, _^_, _≤_, _<_}
-use mathlib.Core.Path.{_≡_}
+use Prim.Native.Nat.{ℕ, _*_, _^_, _≤_, _<_, min}
+use mathlib.Core.Path.{_≡_, refl}
 use mathlib.Core.Bool.{Bool, true, false, cond}
 use native.Mathlib.Omega.{arith}
-use native.Mathlib.Nat.{mul-le-mul}
+use native.Mathlib.Nat.{mul-le-mul, min-zero}
 use lib.Dec.{eqb}
 use Rattle.rules.specs.Weigh.{keptIn}
 
@@ -24,3 +24,10 @@ kept-under kept addOn covered notional e = rw e (go (eqb covered 0))
     go : (b : Bool) → cond b 0 addOn ≤ addOn
     go true = omega arith
     go false = omega arith
+
+-- without a close-out clause the lesser of a product and no premiums is 0
+pub bounded-is : (totalReturn closeOut : Bool) (product premiums : ℕ)
+    → cond totalReturn product (min product (cond closeOut premiums 0)) ≡ cond totalReturn product (cond closeOut (min product premiums) 0)
+bounded-is true closeOut product premiums = refl
+bounded-is false true product premiums = refl
+bounded-is false false product premiums = min-zero product

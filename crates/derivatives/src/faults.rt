@@ -114,10 +114,14 @@ fn resets_faulty(w: u32, days: u32, reset_days: u32) -> bool
     if remaining < next {
         return true;
     }
-    if bit(w, 11) {
-        return false;
-    }
-    next != remaining
+    both(!bit(w, 11), next != remaining)
+}
+
+// Of two tests that are made anyway, so that no branch hangs on a mark.
+fn both(a: bool, b: bool) -> bool
+    ensures { λ r. ⌜ r ≡ (a && b) ⌝ }
+{
+    if a { b } else { false }
 }
 
 // Kind 6: "loss taken into Tier 1 (at most notional)".

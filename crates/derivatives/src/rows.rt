@@ -10,7 +10,7 @@ use words::parts::field;
 ghost use mathlib.Core.Path.{_≡_};
 ghost use mathlib.Core.Bool.{cond, _&&_};
 ghost use mathlib.Core.List.{[]};
-ghost use Prim.Native.Nat.{_^_, _<_};
+ghost use Prim.Native.Nat.{_-_, _^_, _≤_, _<_};
 ghost use Rattle.rules.specs.Word.{bitOf};
 ghost use Rattle.records.specs.Step.{Roomy};
 ghost use Rattle.derivatives.specs.Gathered.{Weighable, plusSet, replacedBy, setOf, weightedBy};
@@ -50,6 +50,17 @@ fn weighted_in(netting: bool, gains: u64, losses: u64, x: u64) -> u64
     x
 }
 
+// The weighted add-on of x less what is uncovered, where that of x is known: in a set without uncovered credits they are the same.
+fn weighted_rest(netting: bool, gains: u64, losses: u64, x: u64, uncovered: u64, whole: u64) -> u64
+    requires { ⌜ (gains < 2 ^ 59) × ((uncovered ≤ x) × (whole ≡ weightedBy netting gains losses x)) ⌝ }
+    ensures { λ r. ⌜ r ≡ weightedBy netting gains losses (x - uncovered) ⌝ }
+{
+    if uncovered == 0 {
+        return whole;
+    }
+    weighted_in(netting, gains, losses, x - uncovered)
+}
+
 // The sums with a set of these words that has gathered this tally.
 pub fn with_set(mut s: Sums, w: u32, received: u32, paid: u32, posted: u32, t: Tally) -> Sums
     requires { ⌜ Roomy s × Weighable t ⌝ }
@@ -60,7 +71,7 @@ pub fn with_set(mut s: Sums, w: u32, received: u32, paid: u32, posted: u32, t: T
     let with_margin = t.losses + marked(counts, wide(size(received)));
     let replaced = 1000 * replacement(netting, t.gains, with_margin);
     let gross = weighted_in(netting, t.gains, t.losses, t.gross);
-    let kept = weighted_in(netting, t.gains, t.losses, t.gross - t.uncovered);
+    let kept = weighted_rest(netting, t.gains, t.losses, t.gross, t.uncovered, gross);
     let cash_paid = 1000 * wide(size(paid));
     s.assets = s.assets + cash_paid;
     s.replacement = s.replacement + replaced;

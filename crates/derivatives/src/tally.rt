@@ -5,6 +5,7 @@ use weights::factors::trade_factor;
 use words::amount::gain;
 use words::amount::loss;
 use words::amount::size;
+use words::numbers::chosen;
 use words::numbers::lesser;
 use words::numbers::wide;
 use words::parts::bit;
@@ -101,18 +102,13 @@ fn trade_add_on(bands: Bands, w: u32, notional: u32, days: u32, reset_days: u32)
 }
 
 // "Written total return swap: factor times notional. Written default swap: 0 without close-out, otherwise the lesser of that
-// product and 1,000 times unpaid premiums."
+// product and 1,000 times unpaid premiums." Without close-out the bound is 0.
 fn written_add_on(w: u32, notional: u32, premiums: u32) -> u64
     ensures { λ r. ⌜ r ≡ writtenAddOn (writtenOf w 0 notional 0 0 premiums []) ⌝ }
 {
     let product = wide(credit_factor(bit(w, 20))) * wide(size(notional));
-    if bit(w, 21) {
-        return product;
-    }
-    if bit(w, 22) {
-        return lesser(product, 1000 * wide(size(premiums)));
-    }
-    0
+    let bound = chosen(bit(w, 22), 1000 * wide(size(premiums)), 0);
+    chosen(bit(w, 21), product, lesser(product, bound))
 }
 
 // What stays in of a written credit's add-on: nothing without cover, else all.

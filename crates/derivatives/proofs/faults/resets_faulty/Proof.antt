@@ -1,3 +1,4 @@
+-- Falling days, or no reset and other days. Assumes nothing.
 use borrow.Author.Tests.{lt-ltb, le-ltb}
 use borrow.Author.Needs.{needs}
 use Rattle.derivatives.proofs.faults.resets_faulty.Statement.{statement}
@@ -15,12 +16,12 @@ returns c = simp (← (c .before .before .size .ensures), ← (c .before .size2 
 bit-requires : tie.Need-bit-requires
 bit-requires c κs = search needs
 
-returns-2 : tie.Need-returns-2
-returns-2 c = simp (← (c .before .before .before .before .size .ensures), ← (c .before .before .before .size2 .ensures), le-ltb _ _ (c .before .before .if1 .left), ← (c .before .bit .ensures), (c .if2 .taken))
+both-requires : tie.Need-both-requires
+both-requires c κs = search needs
 
-returns-3 : tie.Need-returns-3
-returns-3 c = simp (← (c .before .before .before .before .size .ensures), ← (c .before .before .before .size2 .ensures), le-ltb _ _ (c .before .before .if1 .left), ← (c .before .bit .ensures), (c .if2 .left))
+returns-2 : tie.Need-returns-2
+returns-2 c = simp (← (c .before .before .before .before .size .ensures), ← (c .before .before .before .size2 .ensures), le-ltb _ _ (c .before .before .if1 .left), ← (c .before .bit .ensures)) (c .both .ensures)
 
 pub resets-faulty-spec : {M : Type 1} → statement M
 resets-faulty-spec =
-    tie.close (tie.spec size-requires size-requires-2 returns bit-requires returns-2 returns-3)
+    tie.close (tie.spec size-requires size-requires-2 returns bit-requires both-requires returns-2)

@@ -33,11 +33,8 @@ mul-replaced c = omega (arith, (c .before .before .before .before .before .befor
 weighted-in-requires : tie.Need-weighted-in-requires
 weighted-in-requires c κs = search needs
 
-sub-weighted-in : tie.Need-sub-weighted-in
-sub-weighted-in c = search needs
-
-weighted-in-requires-2 : tie.Need-weighted-in-requires-2
-weighted-in-requires-2 c κs = search needs
+weighted-rest-requires : tie.Need-weighted-rest-requires
+weighted-rest-requires c κs = search needs
 
 size-requires-2 : tie.Need-size-requires-2
 size-requires-2 c κs = search needs
@@ -52,10 +49,10 @@ add-s : tie.Need-add-s
 add-s c = search needs
 
 add-s-2 : tie.Need-add-s-2
-add-s-2 c = let p = c .before .before .before .before .before .before .before .before .before .before .before .before .before .before .pre in omega (arith, (p .0 .replacement), (p .1 .weight), replaced-under _ _ _ _ (c .before .before .before .before .before .before .before .replacement .ensures))
+add-s-2 c = let p = c .before .before .before .before .before .before .before .before .before .before .before .before .before .pre in omega (arith, (p .0 .replacement), (p .1 .weight), replaced-under _ _ _ _ (c .before .before .before .before .before .before .replacement .ensures))
 
 add-s-3 : tie.Need-add-s-3
-add-s-3 c = let p = c .before .before .before .before .before .before .before .before .before .before .before .before .before .before .before .pre in omega (arith, (p .0 .weighted), (p .1 .weight), weighted-under _ _ _ _ _ (c .before .before .before .before .before .before .before .weighted-in .ensures))
+add-s-3 c = let p = c .before .before .before .before .before .before .before .before .before .before .before .before .before .before .pre in omega (arith, (p .0 .weighted), (p .1 .weight), weighted-under _ _ _ _ _ (c .before .before .before .before .before .before .weighted-in .ensures))
 
 size-requires-3 : tie.Need-size-requires-3
 size-requires-3 c κs = search needs
@@ -67,46 +64,46 @@ mul-s : tie.Need-mul-s
 mul-s c = search needs
 
 add-s-4 : tie.Need-add-s-4
-add-s-4 c = omega (arith, (c .before .before .before .before .before .before .before .before .before .before .before .before .before .before .before .before .before .before .pre .0 .posted), (c .before .wide3 .ensures), (c .before .before .size3 .ensures))
+add-s-4 c = omega (arith, (c .before .before .before .before .before .before .before .before .before .before .before .before .before .before .before .before .before .pre .0 .posted), (c .before .wide3 .ensures), (c .before .before .size3 .ensures))
 
 marked-requires-2 : tie.Need-marked-requires-2
 marked-requires-2 c κs = search needs
 
 add-s-5 : tie.Need-add-s-5
-add-s-5 c = omega (arith, (c .before .before .before .before .before .before .before .before .before .before .before .before .before .before .before .before .before .before .before .before .pre .0 .offset), marked-under (c .before .before .before .before .before .before .before .before .before .before .before .before .before .before .before .before .before .before .margin-counts .result) (1000 * (c .before .before .before .before .before .before .before .before .wide2 .result)) _ (c .before .marked2 .ensures), (c .before .before .before .before .before .before .before .before .wide2 .ensures), (c .before .before .before .before .before .before .before .before .before .size2 .ensures))
+add-s-5 c = omega (arith, (c .before .before .before .before .before .before .before .before .before .before .before .before .before .before .before .before .before .before .before .pre .0 .offset), marked-under (c .before .before .before .before .before .before .before .before .before .before .before .before .before .before .before .before .before .margin-counts .result) (1000 * (c .before .before .before .before .before .before .before .before .wide2 .result)) _ (c .before .marked2 .ensures), (c .before .before .before .before .before .before .before .before .wide2 .ensures), (c .before .before .before .before .before .before .before .before .before .size2 .ensures))
 
 bit-requires-2 : tie.Need-bit-requires-2
 bit-requires-2 c κs = search needs
 
 add-marked : tie.Need-add-marked
-add-marked c = omega (arith, (c .before .before .before .before .before .before .before .before .before .before .before .before .before .before .before .before .before .before .before .before .before .pre .1 .weight), replaced-under _ _ _ _ (c .before .before .before .before .before .before .before .before .before .before .before .before .before .before .replacement .ensures), weighted-under _ _ _ _ _ (c .before .before .before .before .before .before .before .before .before .before .before .weighted-in2 .ensures))
+add-marked c = omega (arith, (c .before .before .before .before .before .before .before .before .before .before .before .before .before .before .before .before .before .before .before .before .pre .1 .weight), replaced-under _ _ _ _ (c .before .before .before .before .before .before .before .before .before .before .before .before .before .replacement .ensures), weighted-under _ _ _ _ _ (c .before .before .before .before .before .before .before .before .before .before .before .weighted-rest .ensures))
 
 marked-requires-3 : tie.Need-marked-requires-3
 marked-requires-3 c κs = search needs
 
 add-s-6 : tie.Need-add-s-6
-add-s-6 c = let p = c .before .before .before .before .before .before .before .before .before .before .before .before .before .before .before .before .before .before .before .before .before .before .before .pre in omega (arith, (p .0 .exempt), (p .1 .weight), replaced-under _ _ _ _ (c .before .before .before .before .before .before .before .before .before .before .before .before .before .before .before .before .replacement .ensures), weighted-under _ _ _ _ _ (c .before .before .before .before .before .before .before .before .before .before .before .before .before .weighted-in2 .ensures), marked-under (c .before .before .bit2 .result) (1000 * (c .before .before .before .before .before .before .before .before .before .before .before .before .before .before .before .before .replacement .result) + (c .before .before .before .before .before .before .before .before .before .before .before .before .before .weighted-in2 .result)) _ (c .before .marked3 .ensures))
+add-s-6 c = let p = c .before .before .before .before .before .before .before .before .before .before .before .before .before .before .before .before .before .before .before .before .before .before .pre in omega (arith, (p .0 .exempt), (p .1 .weight), replaced-under _ _ _ _ (c .before .before .before .before .before .before .before .before .before .before .before .before .before .before .before .replacement .ensures), weighted-under _ _ _ _ _ (c .before .before .before .before .before .before .before .before .before .before .before .before .before .weighted-rest .ensures), marked-under (c .before .before .bit2 .result) (1000 * (c .before .before .before .before .before .before .before .before .before .before .before .before .before .before .before .replacement .result) + (c .before .before .before .before .before .before .before .before .before .before .before .before .before .weighted-rest .result)) _ (c .before .marked3 .ensures))
 
 mul-s-2 : tie.Need-mul-s-2
-mul-s-2 c = omega (arith, (c .before .before .before .before .before .before .before .before .before .before .before .before .before .before .before .before .before .before .before .before .before .before .before .before .pre .1 .weight))
+mul-s-2 c = omega (arith, (c .before .before .before .before .before .before .before .before .before .before .before .before .before .before .before .before .before .before .before .before .before .before .before .pre .1 .weight))
 
 add-s-7 : tie.Need-add-s-7
-add-s-7 c = let p = c .before .before .before .before .before .before .before .before .before .before .before .before .before .before .before .before .before .before .before .before .before .before .before .before .before .pre in omega (arith, (p .0 .written), (p .1 .weight))
+add-s-7 c = let p = c .before .before .before .before .before .before .before .before .before .before .before .before .before .before .before .before .before .before .before .before .before .before .before .before .pre in omega (arith, (p .0 .written), (p .1 .weight))
 
 mul-s-3 : tie.Need-mul-s-3
-mul-s-3 c = omega (arith, (c .before .before .before .before .before .before .before .before .before .before .before .before .before .before .before .before .before .before .before .before .before .before .before .before .before .before .pre .1 .weight))
+mul-s-3 c = omega (arith, (c .before .before .before .before .before .before .before .before .before .before .before .before .before .before .before .before .before .before .before .before .before .before .before .before .before .pre .1 .weight))
 
 sub-s : tie.Need-sub-s
-sub-s c = weighted-less _ _ _ _ _ _ _ (c .before .before .before .before .before .before .before .before .before .before .before .before .before .before .before .before .weighted-in2 .ensures) (c .before .before .before .before .before .before .before .before .before .before .before .before .before .before .before .before .before .before .weighted-in .ensures) (omega arith)
+sub-s c = weighted-less _ _ _ _ _ _ _ (c .before .before .before .before .before .before .before .before .before .before .before .before .before .before .before .before .weighted-rest .ensures) (c .before .before .before .before .before .before .before .before .before .before .before .before .before .before .before .before .before .weighted-in .ensures) (omega arith)
 
 add-s-8 : tie.Need-add-s-8
-add-s-8 c = omega (arith, (c .before .before .before .before .before .before .before .before .before .before .before .before .before .before .before .before .before .before .before .before .before .before .before .before .before .before .pre .1 .weight), weighted-under _ _ _ _ _ (c .before .before .before .before .before .before .before .before .before .before .before .before .before .before .before .before .before .before .weighted-in .ensures))
+add-s-8 c = omega (arith, (c .before .before .before .before .before .before .before .before .before .before .before .before .before .before .before .before .before .before .before .before .before .before .before .before .before .pre .1 .weight), weighted-under _ _ _ _ _ (c .before .before .before .before .before .before .before .before .before .before .before .before .before .before .before .before .before .weighted-in .ensures))
 
 add-s-9 : tie.Need-add-s-9
-add-s-9 c = let p = c .before .before .before .before .before .before .before .before .before .before .before .before .before .before .before .before .before .before .before .before .before .before .before .before .before .before .before .pre in omega (arith, (p .0 .covered), (p .1 .weight), weighted-under _ _ _ _ _ (c .before .before .before .before .before .before .before .before .before .before .before .before .before .before .before .before .before .before .before .weighted-in .ensures))
+add-s-9 c = let p = c .before .before .before .before .before .before .before .before .before .before .before .before .before .before .before .before .before .before .before .before .before .before .before .before .before .before .pre in omega (arith, (p .0 .covered), (p .1 .weight), weighted-under _ _ _ _ _ (c .before .before .before .before .before .before .before .before .before .before .before .before .before .before .before .before .before .before .weighted-in .ensures))
 
 returns : tie.Need-returns
-returns c = let a = c .before .before .before .before .before .before .before .before .before .before .before .before .before .before .before .before .before .before .before .before .before .before .before .before .before .before .before .args in with-set-is (a .w) (a .received) (a .paid) (a .posted) (a .t) (a .s) _ _ _ _ _ _ _ _ _ (c .before .before .before .before .before .before .before .before .before .before .before .before .before .before .before .before .before .before .before .before .before .before .before .before .before .margin-counts .ensures) (c .before .before .before .before .before .before .bit2 .ensures) ((c .before .before .before .before .before .before .before .before .before .before .before .before .before .before .before .wide2 .ensures) ∙ (c .before .before .before .before .before .before .before .before .before .before .before .before .before .before .before .before .size2 .ensures)) ((c .before .before .before .before .before .before .before .before .before .before .wide3 .ensures) ∙ (c .before .before .before .before .before .before .before .before .before .before .before .size3 .ensures)) (c .before .before .before .before .before .before .before .before .marked2 .ensures) (c .before .before .before .before .before .marked3 .ensures) (replaced-is (a .w) (a .received) (a .paid) (a .posted) (a .t) _ _ _ _ _ (c .before .before .before .before .before .before .before .before .before .before .before .before .before .before .before .before .before .before .before .before .before .before .before .before .before .before .bit .ensures) (c .before .before .before .before .before .before .before .before .before .before .before .before .before .before .before .before .before .before .before .before .before .before .before .before .before .margin-counts .ensures) ((c .before .before .before .before .before .before .before .before .before .before .before .before .before .before .before .before .before .before .before .before .before .before .before .wide .ensures) ∙ (c .before .before .before .before .before .before .before .before .before .before .before .before .before .before .before .before .before .before .before .before .before .before .before .before .size .ensures)) (c .before .before .before .before .before .before .before .before .before .before .before .before .before .before .before .before .before .before .before .before .before .before .marked .ensures) (c .before .before .before .before .before .before .before .before .before .before .before .before .before .before .before .before .before .before .before .before .replacement .ensures)) (weighted-is (a .w) (a .received) (a .paid) (a .posted) (a .t) _ _ _ (c .before .before .before .before .before .before .before .before .before .before .before .before .before .before .before .before .before .before .before .before .before .before .before .before .before .before .bit .ensures) (c .before .before .before .before .before .before .before .before .before .before .before .before .before .before .before .before .before .before .before .weighted-in .ensures)) (weighted-is (a .w) (a .received) (a .paid) (a .posted) (a .t) _ _ _ (c .before .before .before .before .before .before .before .before .before .before .before .before .before .before .before .before .before .before .before .before .before .before .before .before .before .before .bit .ensures) (c .before .before .before .before .before .before .before .before .before .before .before .before .before .before .before .before .before .weighted-in2 .ensures))
+returns c = let a = c .before .before .before .before .before .before .before .before .before .before .before .before .before .before .before .before .before .before .before .before .before .before .before .before .before .before .args in with-set-is (a .w) (a .received) (a .paid) (a .posted) (a .t) (a .s) _ _ _ _ _ _ _ _ _ (c .before .before .before .before .before .before .before .before .before .before .before .before .before .before .before .before .before .before .before .before .before .before .before .before .margin-counts .ensures) (c .before .before .before .before .before .before .bit2 .ensures) ((c .before .before .before .before .before .before .before .before .before .before .before .before .before .before .before .wide2 .ensures) ∙ (c .before .before .before .before .before .before .before .before .before .before .before .before .before .before .before .before .size2 .ensures)) ((c .before .before .before .before .before .before .before .before .before .before .wide3 .ensures) ∙ (c .before .before .before .before .before .before .before .before .before .before .before .size3 .ensures)) (c .before .before .before .before .before .before .before .before .marked2 .ensures) (c .before .before .before .before .before .marked3 .ensures) (replaced-is (a .w) (a .received) (a .paid) (a .posted) (a .t) _ _ _ _ _ (c .before .before .before .before .before .before .before .before .before .before .before .before .before .before .before .before .before .before .before .before .before .before .before .before .before .bit .ensures) (c .before .before .before .before .before .before .before .before .before .before .before .before .before .before .before .before .before .before .before .before .before .before .before .before .margin-counts .ensures) ((c .before .before .before .before .before .before .before .before .before .before .before .before .before .before .before .before .before .before .before .before .before .before .wide .ensures) ∙ (c .before .before .before .before .before .before .before .before .before .before .before .before .before .before .before .before .before .before .before .before .before .before .before .size .ensures)) (c .before .before .before .before .before .before .before .before .before .before .before .before .before .before .before .before .before .before .before .before .before .marked .ensures) (c .before .before .before .before .before .before .before .before .before .before .before .before .before .before .before .before .before .before .before .replacement .ensures)) (weighted-is (a .w) (a .received) (a .paid) (a .posted) (a .t) _ _ _ (c .before .before .before .before .before .before .before .before .before .before .before .before .before .before .before .before .before .before .before .before .before .before .before .before .before .bit .ensures) (c .before .before .before .before .before .before .before .before .before .before .before .before .before .before .before .before .before .before .weighted-in .ensures)) (weighted-is (a .w) (a .received) (a .paid) (a .posted) (a .t) _ _ _ (c .before .before .before .before .before .before .before .before .before .before .before .before .before .before .before .before .before .before .before .before .before .before .before .before .before .bit .ensures) (c .before .before .before .before .before .before .before .before .before .before .before .before .before .before .before .before .before .weighted-rest .ensures))
 
 pub with-set-spec : {M : Type 1} → statement M
 with-set-spec =
@@ -121,8 +118,7 @@ with-set-spec =
     replacement-requires
     mul-replaced
     weighted-in-requires
-    sub-weighted-in
-    weighted-in-requires-2
+    weighted-rest-requires
     size-requires-2
     wide-requires-2
     mul-cash-paid

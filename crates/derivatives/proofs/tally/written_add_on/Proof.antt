@@ -1,7 +1,11 @@
-use Rattle.derivatives.proofs.AddOns.{credit-product}
-use Rattle.theorems.proofs.FactorBounds.{credit-at-most}
-use Rattle.rules.specs.Weigh.{writtenAddOn}
+-- The written add-on, as the law of its bound says. Assumes nothing.
+use Prim.Native.Nat.{_*_}
 use native.Mathlib.Omega.{arith}
+use Rattle.rules.specs.Word.{bitOf, sizeOf}
+use Rattle.rules.specs.Factors.{creditFactor}
+use Rattle.rules.specs.Weigh.{writtenAddOn}
+use Rattle.theorems.proofs.FactorBounds.{credit-at-most}
+use Rattle.derivatives.proofs.AddOns.{credit-product, bounded-is}
 use borrow.Author.Needs.{needs}
 use Rattle.derivatives.proofs.tally.written_add_on.Statement.{statement}
 use Rattle.derivatives.proofs.tally.written_add_on.Tie as tie
@@ -27,32 +31,30 @@ mul-product c = omega (arith, credit-product (c .before .before .wide .result) (
 bit-requires-2 : tie.Need-bit-requires-2
 bit-requires-2 c κs = search needs
 
-returns : tie.Need-returns
-unfolding writtenAddOn
-returns c = simp (← (c .before .bit2 .ensures), (c .if1 .taken), (c .before .before .before .before .wide .ensures), (c .before .before .wide2 .ensures), (c .before .before .before .before .before .credit-factor .ensures), (c .before .before .before .before .before .before .bit .ensures), (c .before .before .before .size .ensures))
-
-bit-requires-3 : tie.Need-bit-requires-3
-bit-requires-3 c κs = search needs
-
 size-requires-2 : tie.Need-size-requires-2
 size-requires-2 c κs = search needs
 
 wide-requires-3 : tie.Need-wide-requires-3
 wide-requires-3 c κs = search needs
 
-mul-lesser : tie.Need-mul-lesser
-mul-lesser c = search needs
+mul-chosen : tie.Need-mul-chosen
+mul-chosen c = search needs
+
+chosen-requires : tie.Need-chosen-requires
+chosen-requires c κs = search needs
+
+bit-requires-3 : tie.Need-bit-requires-3
+bit-requires-3 c κs = search needs
 
 lesser-requires : tie.Need-lesser-requires
 lesser-requires c κs = search needs
 
-returns-2 : tie.Need-returns-2
-unfolding writtenAddOn
-returns-2 c = simp (← (c .before .before .before .before .before .before .bit2 .ensures), (c .before .before .before .before .before .if1 .left), ← (c .before .before .before .before .bit3 .ensures), (c .before .before .before .if2 .taken), (c .lesser .ensures), (c .before .before .before .before .before .before .before .before .before .wide .ensures), (c .before .before .before .before .before .before .before .wide2 .ensures), (c .before .wide3 .ensures), (c .before .before .before .before .before .before .before .before .before .before .credit-factor .ensures), (c .before .before .before .before .before .before .before .before .before .before .before .bit .ensures), (c .before .before .before .before .before .before .before .before .size .ensures), (c .before .before .size2 .ensures))
+chosen-requires-2 : tie.Need-chosen-requires-2
+chosen-requires-2 c κs = search needs
 
-returns-3 : tie.Need-returns-3
+returns : tie.Need-returns
 unfolding writtenAddOn
-returns-3 c = simp (← (c .before .before .before .bit2 .ensures), (c .before .before .if1 .left), ← (c .before .bit3 .ensures), (c .if2 .left))
+returns c = simp ((c .chosen2 .ensures), (c .before .before .bit3 .ensures), (c .before .lesser .ensures), (c .before .before .before .chosen .ensures), (c .before .before .before .before .before .before .bit2 .ensures), (c .before .before .before .before .wide3 .ensures), (c .before .before .before .before .before .size2 .ensures), (c .before .before .before .before .before .before .before .before .before .wide .ensures), (c .before .before .before .before .before .before .before .wide2 .ensures), (c .before .before .before .before .before .before .before .before .before .before .credit-factor .ensures), (c .before .before .before .before .before .before .before .before .before .before .before .bit .ensures), (c .before .before .before .before .before .before .before .before .size .ensures)) (bounded-is (bitOf 21 (c .before .before .before .before .before .before .before .before .before .before .before .before .args .w)) (bitOf 22 (c .before .before .before .before .before .before .before .before .before .before .before .before .args .w)) (creditFactor (bitOf 20 (c .before .before .before .before .before .before .before .before .before .before .before .before .args .w)) * sizeOf (c .before .before .before .before .before .before .before .before .before .before .before .before .args .notional)) (1000 * sizeOf (c .before .before .before .before .before .before .before .before .before .before .before .before .args .premiums)))
 
 pub written-add-on-spec : {M : Type 1} → statement M
 written-add-on-spec =
@@ -65,11 +67,11 @@ written-add-on-spec =
     wide-requires-2
     mul-product
     bit-requires-2
-    returns
-    bit-requires-3
     size-requires-2
     wide-requires-3
-    mul-lesser
+    mul-chosen
+    chosen-requires
+    bit-requires-3
     lesser-requires
-    returns-2
-    returns-3)
+    chosen-requires-2
+    returns)
