@@ -2,7 +2,7 @@
 -- Assumes nothing.
 use Prim.Native.Nat.{ℕ, zero, suc, _+_, _-_, _≤_, _<_}
 use mathlib.Core.Path.{_≡_, refl, sym, _∙_, ap}
-use mathlib.Core.Bool.{Bool, true, false, not, _||_, cond}
+use mathlib.Core.Bool.{Bool, true, false, not, _||_, cond, or-assoc, or-false}
 use mathlib.Core.List.{List}
 use native.Mathlib.Omega.{arith}
 use native.Mathlib.Numerals.{sub-one}
@@ -15,28 +15,25 @@ use Rattle.rules.specs.Read.{lacks, recordThen, stands}
 use Rattle.rules.proofs.Lists.{or-true}
 use Rattle.theorems.proofs.Records.{lacks-room}
 
--- ---- the loop of `lacking`: i is what it has come to
+-- ---- the loop of `lacking`: i is what it has come to, and `other` what it has seen of the words behind
 
 module _ (ws : List ℕ) (at n : ℕ) where
-  pub lacking-short : (i : ℕ) → lacks n ws at ≡ lacks i ws at → 0 < i → length ws ≤ at + i → true ≡ lacks n ws at
+  pub lacking-short : (i : ℕ) → 0 < i → length ws ≤ at + i → true ≡ lacks i ws at
   unfolding lacks
-  lacking-short zero e h k = let z : ⊥ = omega arith in absurd z
-  lacking-short (suc i) e h k = sym (e ∙ simp (le-leb _ _ k))
+  lacking-short zero h k = let z : ⊥ = omega arith in absurd z
+  lacking-short (suc i) h k = simp (le-leb _ _ k)
 
-  pub lacking-other : (i k : ℕ) → lacks n ws at ≡ lacks i ws at → 0 < i → k ≡ kindOf (word ws (at + i)) → (k ≡ 0 → ⊥) → true ≡ lacks n ws at
+  pub lacking-next : (i k : ℕ) (other more : Bool) → lacks n ws at ≡ (other || lacks i ws at) → 0 < i → at + i < length ws
+      → k ≡ kindOf (word ws (at + i)) → more ≡ (other || not (eqb k 0)) → lacks n ws at ≡ (more || lacks (i - 1) ws at)
   unfolding lacks
-  lacking-other zero k e h q f = let z : ⊥ = omega arith in absurd z
-  lacking-other (suc i) k e h q f = sym (e ∙ simp (ne-eqb _ _ (λ z. f (q ∙ z)), or-true))
+  lacking-next zero k other more e h l q f = let z : ⊥ = omega arith in absurd z
+  lacking-next (suc i) k other more e h l q f =
+      e ∙ simp (lt-leb _ _ l, ← q, sub-one, f) (sym (or-assoc other (not (eqb k 0)) (lacks i ws at)))
 
-  pub lacking-next : (i k : ℕ) → lacks n ws at ≡ lacks i ws at → 0 < i → at + i < length ws → k ≡ kindOf (word ws (at + i)) → k ≡ 0 → lacks n ws at ≡ lacks (i - 1) ws at
+  pub lacking-end : (i : ℕ) (other : Bool) → lacks n ws at ≡ (other || lacks i ws at) → i ≤ 0 → other ≡ lacks n ws at
   unfolding lacks
-  lacking-next zero k e h l q f = let z : ⊥ = omega arith in absurd z
-  lacking-next (suc i) k e h l q f = rw (sub-one) (e ∙ simp (lt-leb _ _ l, eq-eqb _ _ (sym q ∙ f)))
-
-  pub lacking-none : (i : ℕ) → lacks n ws at ≡ lacks i ws at → i ≤ 0 → false ≡ lacks n ws at
-  unfolding lacks
-  lacking-none zero e h = sym e
-  lacking-none (suc i) e h = let z : ⊥ = omega arith in absurd z
+  lacking-end zero other e h = sym (e ∙ or-false other)
+  lacking-end (suc i) other e h = let z : ⊥ = omega arith in absurd z
 
 -- ---- `standing`
 

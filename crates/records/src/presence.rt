@@ -1,27 +1,33 @@
 // Whether the words of a record are there.
 use words::parts::kind;
 ghost use mathlib.Core.Path.{_≡_};
-ghost use Prim.Native.Nat.{_^_, _≤_};
+ghost use mathlib.Core.Bool.{_||_};
+ghost use Prim.Native.Nat.{_^_, _≤_, _<_};
 ghost use lib.ListN.{length};
 ghost use denote.Ref.{now};
 ghost use Rattle.rules.specs.Read.{lacks, stands};
 
-// Of the n words after a place one is missing or no amount.
+// Of the n words after a place one is missing or no amount. The kinds are looked at together, so that one branch serves all.
 pub fn lacking(ws: &[u32], at: usize, n: usize) -> bool
-    requires { ⌜ (at ≤ length (now ws)) × ((length (now ws) ≤ 2 ^ 20) × (n ≤ 16)) ⌝ }
+    requires { ⌜ (at ≤ length (now ws)) × ((length (now ws) ≤ 2 ^ 20) × ((0 < n) × (n ≤ 16))) ⌝ }
     ensures { λ r. ⌜ r ≡ lacks n (now (ws .entry)) at ⌝ }
 {
+    if ws.len() <= at + n {
+        return true;
+    }
+    let mut other = false;
     let mut i = n;
     while 0 < i {
-        if ws.len() <= at + i {
-            return true;
-        }
-        if kind(ws[at + i]) != 0 {
-            return true;
-        }
+        other = either(other, kind(ws[at + i]) != 0);
         i -= 1;
     }
-    false
+    other
+}
+
+fn either(a: bool, b: bool) -> bool
+    ensures { λ r. ⌜ r ≡ (a || b) ⌝ }
+{
+    if a { true } else { b }
 }
 
 // A record of a kind stands at a place.
