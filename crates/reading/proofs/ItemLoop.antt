@@ -24,7 +24,7 @@ use Rattle.reading.specs.declared.Reading.{Reading}
 use Rattle.reading.specs.declared.Reading.the-variants.{Whole, Fault}
 use Rattle.reading.specs.declared.items.ItemAnswer.{ItemAnswer}
 use Rattle.reading.specs.declared.items.ItemAnswer.the-variants.{More, End, Halt}
-use Rattle.reading.specs.Steps.{itemAnswer, readingOf}
+use Rattle.reading.specs.Steps.{itemAnswer, readingOf, allSums, Fair, Leads}
 use Rattle.reading.proofs.ItemLaws.{Proper, proper-turn}
 use Rattle.reading.proofs.ItemLaws
 
@@ -84,10 +84,6 @@ resumed-none bands r = simp zero-add
 
 -- ---- how large they are: all together at most 2 ^ 41 for each word read
 
-pub allSums : Sums → ℕ
-allSums s =
-    s .assets + s .deducted + s .replacement + s .weighted + s .posted + s .offset + s .exempt + s .written + s .covered + s .financed + s .netted + s .principal + s .agent + s .committed + s .unconverted
-
 pub record AtItem (bands : Bands) (ws : List ℕ) (whole : Reading) (s : Sums) (at : ℕ) : Type 0 where
   pub along : Along (length ws) (itemTurn ws) (resumed bands) whole s at
   pub small : allSums s ≤ perWord * at
@@ -125,6 +121,9 @@ module _ (bands : Bands) (ws : List ℕ) (whole : Reading) (s : Sums) (at : ℕ)
         committed = omega arith;
         unconverted = omega arith;
       }
+
+  pub fair : length ws ≤ 2 ^ 20 → Fair ws s at
+  fair h = record { within = within; short = h; small = i .small }
 
   -- the turn that an answer stands for
   end-turn : (t : Turn Placed) → itemAnswer bands s t ≡ End → t ≡ over
@@ -172,3 +171,36 @@ module _ (bands : Bands) (ws : List ℕ) (whole : Reading) (s : Sums) (at : ℕ)
 
   pub at-next : (sums : Sums) (next : ℕ) → itemAnswer bands s (itemTurn ws at) ≡ More sums next → (at < next) × AtItem bands ws whole sums next
   at-next sums next e = grown (itemTurn ws at) refl (fine-item-turn bands ws at within) sums next e
+
+-- ---- along items without a fault
+
+module _ (bands : Bands) (ws : List ℕ) (whole : Reading) (s : Sums) (from : ℕ) (i : AtItem bands ws whole s from) where
+  pub led : {t : Sums} {at : ℕ} → Leads bands ws s from t at → (from ≤ at) × AtItem bands ws whole t at
+  led Leads.none = (omega arith, i)
+  led (Leads.more {t} {sums} {at} {next} l e) =
+      let before = led l in
+      let n = at-next bands ws whole t at (before .1) sums next e in
+      (omega (arith, before .0, n .0), n .1)
+
+-- past two runs
+pub past : (bands : Bands) (ws : List ℕ) (whole : Reading) (s : Sums) (from : ℕ) → AtItem bands ws whole s from → {t u : Sums} {at next : ℕ} → Leads bands ws s from t at → Leads bands ws t at u next → (from ≤ next) × AtItem bands ws whole u next
+past bands ws whole s from i {t} {u} {at} {next} l m =
+    let a = led bands ws whole s from i l in
+    let b = led bands ws whole t at (a .1) m in
+    (omega (arith, a .0, b .0), b .1)
+
+module _ (bands : Bands) (ws : List ℕ) (s : Sums) (from : ℕ) (f : Fair ws s from) {t : Sums} {at : ℕ} (l : Leads bands ws s from t at) where
+  there : (from ≤ at) × AtItem bands ws (resumed bands s (runFrom (itemTurn ws) (suc (length ws)) from)) t at
+  there = led bands ws _ s from (record { along = along-start (length ws) (itemTurn ws) (resumed bands) _ s from (f .within) refl; small = f .small }) l
+
+  pub onward : from ≤ at
+  onward = there .0
+
+  pub fair-there : Fair ws t at
+  fair-there = record { within = there .1 .along .within; short = f .short; small = there .1 .small }
+
+  pub roomy-there : Roomy t
+  roomy-there = roomy bands ws _ t at (there .1) (f .short)
+
+  pub further : (sums : Sums) (next : ℕ) → itemAnswer bands t (itemTurn ws at) ≡ More sums next → at < next
+  further sums next e = at-next bands ws _ t at (there .1) sums next e .0

@@ -2,3 +2,4 @@ pub mod ProtectionLaws
 pub mod ItemLaws
 pub mod ItemLoop
 pub mod BookLaws
+pub mod RunLaws

@@ -1,5 +1,7 @@
 // The items behind the protections, one after the other, each on the part of the book that begins at its head.
 use crate::Reading;
+use crate::runs::assets;
+use crate::runs::off_balance_items;
 use derivatives::derivative_set;
 use financing::financing_set;
 use records::ItemStep;
@@ -70,6 +72,7 @@ fn item_at(book: &[u32], at: usize, s: Sums, bands: Bands) -> ItemAnswer
     }
 }
 
+// Assets and off-balance items mostly stand in runs, which are passed first; what stands behind them is looked at whatever it is.
 pub fn read_items(book: &[u32], first: usize, bands: Bands) -> Reading
     requires { ⌜ (first ≤ length (now book)) × (length (now book) ≤ 2 ^ 20) ⌝ }
     ensures { λ r. ⌜ r ≡ readingOf bands (runFrom (itemTurn (now (book .entry))) (suc (length (now (book .entry)))) first) ⌝ }
@@ -93,13 +96,16 @@ pub fn read_items(book: &[u32], first: usize, bands: Bands) -> Reading
         unconverted: 0,
     };
     loop {
-        match item_at(book, at, s, bands) {
+        let owned = assets(book, at, s, bands);
+        let promised = off_balance_items(book, owned.next, owned.sums, bands);
+        match item_at(book, promised.next, promised.sums, bands) {
             ItemAnswer::More(sums, next) => {
                 s = sums;
                 at = next;
             }
             ItemAnswer::End => {
-                return Reading::Whole(s, at);
+                let sums = promised.sums;
+                return Reading::Whole(sums, promised.next);
             }
             ItemAnswer::Halt(number, place) => {
                 return Reading::Fault(number, place);

@@ -5,6 +5,7 @@ use rules::Sums;
 pub mod head;
 mod items;
 mod protections;
+mod runs;
 pub mod whole;
 
 // The sums of a book whose records are all good, and the place of its end word; or the number and the place of the first fault.

@@ -1,0 +1,59 @@
+// Runs of assets and of off-balance items: loops of their own, in which the other sums stay as they are.
+use records::ItemStep;
+use records::assets::asset;
+use records::commitments::off_balance;
+use records::presence::standing;
+use rules::Bands;
+use rules::Sums;
+ghost use denote.Ref.{now};
+ghost use Rattle.reading.specs.Steps.{Fair, Leads};
+
+// The sums and the place behind some items.
+pub struct Passed {
+    pub sums: Sums,
+    pub next: usize,
+}
+
+// Up to the first word that begins no asset, or an asset with a fault.
+pub fn assets(book: &[u32], from: usize, s: Sums, bands: Bands) -> Passed
+    requires { ⌜ Fair (now book) s from ⌝ }
+    ensures { λ r. ⌜ Leads bands (now (book .entry)) s from (r .sums) (r .next) ⌝ }
+{
+    let mut t = s;
+    let mut at = from;
+    while standing(book, at, 2) {
+        let part = &book[at..];
+        match asset(part, t, bands) {
+            ItemStep::Next(sums, next) => {
+                t = sums;
+                at = at + next;
+            }
+            ItemStep::Stop(_, _) => {
+                return Passed { sums: t, next: at };
+            }
+        }
+    }
+    Passed { sums: t, next: at }
+}
+
+// The same of off-balance items.
+pub fn off_balance_items(book: &[u32], from: usize, s: Sums, bands: Bands) -> Passed
+    requires { ⌜ Fair (now book) s from ⌝ }
+    ensures { λ r. ⌜ Leads bands (now (book .entry)) s from (r .sums) (r .next) ⌝ }
+{
+    let mut t = s;
+    let mut at = from;
+    while standing(book, at, 10) {
+        let part = &book[at..];
+        match off_balance(part, t, bands) {
+            ItemStep::Next(sums, next) => {
+                t = sums;
+                at = at + next;
+            }
+            ItemStep::Stop(_, _) => {
+                return Passed { sums: t, next: at };
+            }
+        }
+    }
+    Passed { sums: t, next: at }
+}
