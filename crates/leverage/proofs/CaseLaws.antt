@@ -44,7 +44,7 @@ module _ (r : Reading) (s : Settlement) where
   pub uncleared-fault : (number place : ℕ) → r ≡ Fault number place → eqb (s .number) 0 ≡ uncleared r s
   uncleared-fault number place e = rw e
 
-pub stop-whole : (r : Reading) (sums : Sums) (place : ℕ) → r ≡ Whole sums place → place ≡ stopOf r
+pub stop-whole : (r : Reading) (sums : Sums) (place : ℕ) → r ≡ Whole sums place → cond (eqb (sums .covered) 0) 0 place ≡ stopOf r
 stop-whole r sums place e = rw e
 
 module _ (head : Head) (rows : List ℤ) (a : Admission) where

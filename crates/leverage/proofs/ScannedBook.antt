@@ -249,3 +249,15 @@ records-are ws h =
       where
         i : Run Placed
         i = runFrom (itemTurn ws) (suc (length ws)) (protectionPlace (headOf ws .protections))
+
+-- where all records are good, the draws that it meets are those of the items
+pub draws-are : (ws : List ℕ) → firstRecord ≤ length ws → itemsOf ws .number ≡ 0 → scanned ws (headOf ws .protections) (itemsOf ws .place) ≡ drawsOver (itemsOf ws .records)
+unfolding itemsOf protectionsOf
+draws-are ws h z =
+    go (runFrom (protectionTurn ws) (headOf ws .protections) firstRecord) (all-due ws (headOf ws .protections) 0)
+    (fine-run (length ws) perWord nothing (protectionTurn ws) (fine-protection ws) (headOf ws .protections) firstRecord h .within) z
+  where
+    go : (r : Run Protection) → AllDue ws (headOf ws .protections) 0 r → r .place ≤ length ws → itemsAfter ws r .number ≡ 0
+        → scanned ws (headOf ws .protections) (itemsAfter ws r .place) ≡ drawsOver (itemsAfter ws r .records)
+    go r (faulty-one {number = n} e l) w z = let f : itemsAfter ws r ≡ ended (suc n) (r .place) = simp (e, ne-eqb (suc n) 0 (λ z. omega arith)) in let o : ⊥ = omega (arith, ap (λ (x : Run Placed). x .number) f, z) in absurd o
+    go r (all-good e m p) w z = simp (e, p, zero-add) (same-draws ws (headOf ws .protections) (headOf ws .bands) (omega (arith, p)))

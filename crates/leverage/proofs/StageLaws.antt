@@ -4,7 +4,7 @@ use mathlib.Core.Path.{_≡_, refl, sym, _∙_, ap, ap₂, subst}
 use mathlib.Core.Bool.{Bool, true, false, not, _||_, cond}
 use mathlib.Core.List.{List, [], _∷_, _++_}
 use native.Mathlib.Omega.{arith}
-use borrow.Author.Tests.{ltb-false, ltb-true, lt-ltb, le-ltb, eqb-true, eq-eqb, ne-eqb}
+use borrow.Author.Tests.{ltb-false, ltb-true, lt-ltb, le-ltb, le-leb, eqb-true, eq-eqb, ne-eqb}
 use lib.Dec.{eqb, ltb}
 use lib.IntN.{ℤ}
 use lib.ListN.{length, drop, replicate}
@@ -25,18 +25,19 @@ use Rattle.rules.proofs.Runs.{fine-run}
 use Rattle.theorems.proofs.MemberBounds.{perWord}
 use Rattle.theorems.proofs.ItemBounds.{placedWeight, fine-item-turn, nothing, fine-protection}
 use Rattle.theorems.proofs.Settling.{settle-length}
+use Rattle.theorems.proofs.Uncovered.{no-cover}
 use Rattle.reading.specs.declared.Reading.{Reading}
 use Rattle.reading.specs.declared.Reading.the-variants.{Whole, Fault}
 use Rattle.reading.specs.Steps.{readingOf}
 use Rattle.register.specs.declared.Settlement.{Settlement}
-use Rattle.register.specs.Scan.{protectionPlace, loadedFrom, scanned}
+use Rattle.register.specs.Scan.{protectionPlace, loadedFrom, scanFrom, scanned}
 use Rattle.register.specs.Draws.{answerOf, registerOf}
 use Rattle.leverage.specs.declared.Admission.{Admission}
 use Rattle.leverage.specs.declared.Admission.the-variants.{Early, Within, Admitted}
 use Rattle.leverage.specs.declared.Answer.{Answer}
 use Rattle.leverage.specs.declared.Answer.the-variants.{Refused, Accepted}
 use Rattle.leverage.specs.Answers.{numberIn, placeIn, verdictOfAnswer, earlyNumber, stopOf, concluded, uncleared, admissionOf, answerTo, rowsTo}
-use Rattle.leverage.proofs.ScannedBook.{records-are}
+use Rattle.leverage.proofs.ScannedBook.{records-are, draws-are}
 
 -- ---- before the records
 
@@ -96,14 +97,6 @@ settle-proper entries (d ∷ ds) = go (drawFault entries d) (settle-proper (draw
     go zero h = h
     go (suc f) h = unfits
 
-stop-is : (bands : Bands) (r : Run Placed) → stopOf (readingOf bands r) ≡ r .place
-unfolding readingOf
-stop-is bands r = go (eqb (r .number) 0)
-  where
-    go : (b : Bool) → stopOf (cond b (Whole (sumsOf bands (r .records)) (r .place)) (Fault (r .number) (r .place))) ≡ r .place
-    go true = refl
-    go false = refl
-
 -- the first of the two faults
 judged-is : (bands : Bands) (r : Run Placed) (s : Settled) → Proper s → concluded (readingOf bands r) (answerOf s) ≡ admissionOf bands (judged r s)
 unfolding readingOf
@@ -158,6 +151,11 @@ module _ (head : Head) (bands : Bands) (r : Run Placed) (register : List Entry) 
 
 -- ---- a book whose records are looked at
 
+-- up to place 0 there is no cover
+none-scanned : (ws : List ℕ) (b stop : ℕ) → stop ≡ 0 → scanned ws b stop ≡ []
+unfolding scanFrom
+none-scanned ws b stop q = rw q (simp (le-leb 0 (protectionPlace b) (omega arith)))
+
 -- the reading stops in the book
 pub items-within : (ws : List ℕ) → firstRecord ≤ length ws → itemsOf ws .place ≤ length ws
 unfolding itemsOf protectionsOf
@@ -168,18 +166,40 @@ items-within ws h = go (runFrom (protectionTurn ws) (headOf ws .protections) fir
     go r false w = w
 
 module _ (ws : List ℕ) (entries : ℕ) (k : Looked ws entries) (r : Reading) (rq : r ≡ readingOf (headOf ws .bands) (itemsOf ws)) (stop : ℕ) (sq : stop ≡ stopOf r) where
-  pub stop-place : stop ≡ itemsOf ws .place
-  stop-place = sq ∙ ap stopOf rq ∙ stop-is (headOf ws .bands) (itemsOf ws)
+  stop-is : (x : Bool) → eqb (itemsOf ws .number) 0 ≡ x → stop ≡ stopOf (cond x (Whole (sumsOf (headOf ws .bands) (itemsOf ws .records)) (itemsOf ws .place)) (Fault (itemsOf ws .number) (itemsOf ws .place)))
+  unfolding readingOf
+  stop-is x e = sq ∙ ap stopOf rq ∙ simp e
 
   pub stop-within : stop ≤ length ws
-  stop-within = omega (arith, stop-place, items-within ws (k .words))
+  stop-within = go (eqb (itemsOf ws .number) 0) refl
+    where
+      inside : (c : Bool) → stop ≡ cond c 0 (itemsOf ws .place) → stop ≤ length ws
+      inside true q = omega arith
+      inside false q = omega (arith, items-within ws (k .words))
+
+      go : (x : Bool) → eqb (itemsOf ws .number) 0 ≡ x → stop ≤ length ws
+      go true e = inside (eqb (sumsOf (headOf ws .bands) (itemsOf ws .records) .covered) 0) (stop-is true e)
+      go false e = inside false (stop-is false e)
+
+  -- the covers up to there are all that stand before the place at which the reading stops
+  same-scan : scanned ws (headOf ws .protections) stop ≡ scanned ws (headOf ws .protections) (itemsOf ws .place)
+  same-scan = go (eqb (itemsOf ws .number) 0) refl
+    where
+      upto : eqb (itemsOf ws .number) 0 ≡ true → (c : Bool) → eqb (sumsOf (headOf ws .bands) (itemsOf ws .records) .covered) 0 ≡ c → stop ≡ cond c 0 (itemsOf ws .place)
+          → scanned ws (headOf ws .protections) stop ≡ scanned ws (headOf ws .protections) (itemsOf ws .place)
+      upto e true z q = none-scanned ws (headOf ws .protections) stop q ∙ sym (draws-are ws (k .words) (eqb-true _ 0 e) ∙ no-cover (headOf ws .bands) ws (eqb-true _ 0 z))
+      upto e false z q = ap (scanned ws (headOf ws .protections)) q
+
+      go : (x : Bool) → eqb (itemsOf ws .number) 0 ≡ x → scanned ws (headOf ws .protections) stop ≡ scanned ws (headOf ws .protections) (itemsOf ws .place)
+      go true e = upto e (eqb (sumsOf (headOf ws .bands) (itemsOf ws .records) .covered) 0) refl (stop-is true e)
+      go false e = ap (scanned ws (headOf ws .protections)) (stop-is false e)
 
   settled-as : Settled
   settled-as = settle (loadedFrom ws (headOf ws .protections) 0) (scanned ws (headOf ws .protections) stop)
 
   the-outcome : admission ws entries ≡ judged (itemsOf ws) settled-as
   unfolding settled-as
-  the-outcome = k .outcome ∙ records-are ws (k .words) ∙ ap (λ (n : ℕ). judged (itemsOf ws) (settle (loadedFrom ws (headOf ws .protections) 0) (scanned ws (headOf ws .protections) n))) (sym stop-place)
+  the-outcome = k .outcome ∙ records-are ws (k .words) ∙ ap (λ (ds : List Draw). judged (itemsOf ws) (settle (loadedFrom ws (headOf ws .protections) 0) ds)) (sym same-scan)
 
   module _ (s : Settlement) (aq : s ≡ answerOf (settle (loadedFrom ws (headOf ws .protections) 0) (scanned ws (headOf ws .protections) stop))) where
     pub admitted : concluded r s ≡ admissionOf (headOf ws .bands) (admission ws entries)

@@ -47,9 +47,9 @@ earlyNumber ws entries =
     (cond (ltb entries (headOf ws .protections)) 4
     0))
 
--- where the reading stops
+-- how far covers are settled: up to where the reading stops, or not at all where nothing is covered
 abbrev pub stopOf : Reading → ℕ
-stopOf (Whole sums place) = place
+stopOf (Whole sums place) = cond (eqb (sums .covered) 0) 0 place
 stopOf (Fault number place) = place
 
 -- the first of the two faults: the covers all stand before the place at which the reading stops

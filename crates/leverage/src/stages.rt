@@ -2,17 +2,28 @@
 use crate::Admission;
 use reading::Reading;
 use register::Settlement;
+ghost use mathlib.Core.Bool.{cond};
 ghost use mathlib.Core.Path.{_≡_};
+ghost use lib.Dec.{eqb};
 ghost use Rattle.leverage.specs.Answers.{concluded, stopOf, uncleared};
 
-// Where the reading stops: the covers before that place are settled.
+// How far the covers are settled: up to where the reading stops. Where nothing is covered there is none to settle.
 pub fn stop_of(r: Reading) -> usize
     ensures { λ p. ⌜ p ≡ stopOf r ⌝ }
 {
     match r {
-        Reading::Whole(_, place) => place,
+        Reading::Whole(sums, place) => last_cover(sums.covered, place),
         Reading::Fault(_, place) => place,
     }
+}
+
+fn last_cover(covered: u64, place: usize) -> usize
+    ensures { λ p. ⌜ p ≡ cond (eqb covered 0) 0 place ⌝ }
+{
+    if covered == 0 {
+        return 0;
+    }
+    place
 }
 
 // "the first faulty record": a cover that is unfit stands before the record at which the reading stops.
