@@ -1,7 +1,7 @@
 -- The causes of a financing trade as the code tells them apart. Assumes nothing.
 use Prim.Native.Nat.{ℕ, _+_, _≤_, _<_}
 use mathlib.Core.Path.{_≡_}
-use mathlib.Core.Bool.{Bool, true, false, not, _||_, _&&_, cond}
+use mathlib.Core.Bool.{Bool, true, false, not, _||_, _&&_}
 use mathlib.Core.List.{List}
 use native.Mathlib.Omega.{arith}
 use borrow.Author.Tests.{lt-ltb, le-ltb, lt-leb}
@@ -10,11 +10,6 @@ use Rattle.rules.specs.Word.{payloadOf, sizeOf, faultyAmount, faultyDays}
 use Rattle.rules.specs.Faults.{cause, financingTradeFault}
 use Rattle.rules.specs.Read.{lacks}
 use Rattle.financing.specs.Weighing.{ownFaultAt, tradeFaultAt}
-
--- a value that a mark chooses is at most both together
-pub chosen-most : (mark : Bool) (marked other r : ℕ) → r ≡ cond mark marked other → r ≤ marked + other
-chosen-most true marked other r e = omega arith
-chosen-most false marked other r e = omega arith
 
 module _ (agent : Bool) (asset securities receivable payable a s r : ℕ) (aq : a ≡ sizeOf asset) (sq : s ≡ sizeOf securities) (rq : r ≡ sizeOf receivable) where
   abbrev Odd : Bool

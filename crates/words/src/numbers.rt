@@ -1,7 +1,7 @@
 // Numbers of 64 bits from amounts, and values chosen by what the data says: the machine chooses between two values without a branch.
 ghost use mathlib.Core.Bool.{cond};
 ghost use mathlib.Core.Path.{_≡_};
-ghost use Prim.Native.Nat.{_-_, min};
+ghost use Prim.Native.Nat.{_+_, _-_, _≤_, min};
 
 pub fn wide(x: u32) -> u64
     ensures { λ r. ⌜ r ≡ x ⌝ }
@@ -22,8 +22,9 @@ pub fn lesser(a: u64, b: u64) -> u64
     if a < b { a } else { b }
 }
 
+// The bound lets a sum of chosen values be seen to fit without a look at the mark.
 pub fn chosen(mark: bool, marked: u64, other: u64) -> u64
-    ensures { λ r. ⌜ r ≡ cond mark marked other ⌝ }
+    ensures { λ r. ⌜ (r ≡ cond mark marked other) × (r ≤ marked + other) ⌝ }
 {
     if mark {
         return marked;

@@ -1,10 +1,8 @@
 -- E* is at most the value lent, and so the sums fit. Assumes nothing.
-use Prim.Native.Nat.{_*_}
 use native.Mathlib.Omega.{arith}
 use borrow.Author.Needs.{needs}
 use Rattle.words.proofs.parts.bit.Reads as bit-reads
 use Rattle.financing.proofs.SetSteps.{excess-most}
-use Rattle.financing.proofs.Causes.{chosen-most}
 use Rattle.financing.specs.Weighing.{plusSet}
 use Rattle.financing.proofs.tally.with_set.Statement.{statement}
 use Rattle.financing.proofs.tally.with_set.Tie as tie
@@ -70,11 +68,8 @@ add-s-3 c =
     let p = c .before .before .before .before .before .before .before .before .before .before .pre in
     let bit = c .before .before .before .before .before .before .before .before .before .bit in
     let excess = c .before .before .before .before .before .before .before .before .excess in
-    let bit2 = c .before .before .before .before .before .before .bit2 in
-    let chosen = c .before .chosen in
     omega (
       arith,
-      chosen-most (bit2 .result) 0 (1000 * (excess .result)) (chosen .result) (chosen .ensures),
       excess-most (bit .result) (a .t) (p .1 .excess),
       excess .ensures,
       p .1 .lent,
@@ -100,14 +95,8 @@ add-s-4 c =
     let p = c .before .before .before .before .before .before .before .before .before .before .before .before .before .pre in
     let bit = c .before .before .before .before .before .before .before .before .before .before .before .before .bit in
     let excess = c .before .before .before .before .before .before .before .before .before .before .before .excess in
-    let bit2 = c .before .before .before .before .before .before .before .before .before .bit2 in
-    let chosen2 = c .before .before .chosen2 in
-    let bit3 = c .before .bit3 in
-    let chosen3 = c .chosen3 in
     omega (
       arith,
-      chosen-most (bit2 .result) (1000 * (excess .result)) 0 (chosen2 .result) (chosen2 .ensures),
-      chosen-most (bit3 .result) (1000 * (a .t .lent)) 0 (chosen3 .result) (chosen3 .ensures),
       excess-most (bit .result) (a .t) (p .1 .excess),
       excess .ensures,
       p .1 .lent,
@@ -120,14 +109,8 @@ add-s-5 c =
     let p = c .before .before .before .before .before .before .before .before .before .before .before .before .before .before .pre in
     let bit = c .before .before .before .before .before .before .before .before .before .before .before .before .before .bit in
     let excess = c .before .before .before .before .before .before .before .before .before .before .before .before .excess in
-    let bit2 = c .before .before .before .before .before .before .before .before .before .before .bit2 in
-    let chosen2 = c .before .before .before .chosen2 in
-    let bit3 = c .before .before .bit3 in
-    let chosen3 = c .before .chosen3 in
     omega (
       arith,
-      chosen-most (bit2 .result) (1000 * (excess .result)) 0 (chosen2 .result) (chosen2 .ensures),
-      chosen-most (bit3 .result) (1000 * (a .t .lent)) 0 (chosen3 .result) (chosen3 .ensures),
       excess-most (bit .result) (a .t) (p .1 .excess),
       excess .ensures,
       p .1 .lent,
@@ -146,7 +129,7 @@ returns c =
     let chosen2 = c .before .before .before .chosen2 in
     let bit3 = c .before .before .bit3 in
     let chosen3 = c .before .chosen3 in
-    rw (netted .ensures, chosen .ensures, chosen2 .ensures, chosen3 .ensures, excess .ensures, bit .ensures, bit2 .ensures, bit3 .ensures)
+    rw (netted .ensures, chosen .ensures .0, chosen2 .ensures .0, chosen3 .ensures .0, excess .ensures, bit .ensures, bit2 .ensures, bit3 .ensures)
 
 pub with-set-spec : {M : Type 1} → statement M
 with-set-spec =

@@ -17,7 +17,7 @@ chosen-requires c κs = search needs
 
 -- src/tally.rt:77:5
 returns : tie.Need-returns
-returns c = rw ((c .chosen .ensures), (c .before .less .ensures))
+returns c = rw ((c .chosen .ensures .0), (c .before .less .ensures))
 
 pub excess-spec : {M : Type 1} → statement M
 excess-spec = tie.close (tie.spec less-requires chosen-requires returns)

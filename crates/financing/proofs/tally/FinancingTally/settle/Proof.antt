@@ -1,8 +1,6 @@
--- What the day and the mark choose is at most what stood there, and so the sums fit. Assumes nothing.
+-- The cash of the day and of the days before. Assumes nothing.
 use native.Mathlib.Omega.{arith}
-use lib.Dec.{eqb}
 use borrow.Author.Needs.{needs}
-use Rattle.financing.proofs.Causes.{chosen-most}
 use Rattle.financing.specs.Weighing.{settled}
 use Rattle.financing.proofs.tally.FinancingTally.settle.Statement.{statement}
 use Rattle.financing.proofs.tally.FinancingTally.settle.Tie as tie
@@ -21,12 +19,7 @@ chosen-requires c κs = search needs
 
 -- src/tally.rt:61:23
 add-self : tie.Need-add-self
-add-self c =
-    let a = c .before .before .before .before .args in
-    let p = c .before .before .before .before .pre in
-    let lesser = c .before .before .lesser in
-    let chosen = c .before .chosen in
-    omega (arith, chosen-most (eqb (a .days) (a .self .day)) 0 (lesser .result) (chosen .result) (chosen .ensures), lesser .ensures, p)
+add-self c = omega arith
 
 -- src/tally.rt:63:27
 chosen-requires-2 : tie.Need-chosen-requires-2
@@ -38,17 +31,7 @@ chosen-requires-3 c κs = search needs
 
 -- src/tally.rt:63:27
 add-self-2 : tie.Need-add-self-2
-add-self-2 c =
-    let a = c .before .before .before .before .before .before .args in
-    let p = c .before .before .before .before .before .before .pre in
-    let chosen2 = c .before .chosen2 in
-    let chosen3 = c .chosen3 in
-    omega (
-      arith,
-      chosen-most (eqb (a .days) (a .self .day)) (a .self .receivable) 0 (chosen2 .result) (chosen2 .ensures),
-      chosen-most (a .marked) (a .receivable) 0 (chosen3 .result) (chosen3 .ensures),
-      p,
-    )
+add-self-2 c = omega arith
 
 -- src/tally.rt:64:24
 chosen-requires-4 : tie.Need-chosen-requires-4
@@ -60,17 +43,7 @@ chosen-requires-5 c κs = search needs
 
 -- src/tally.rt:64:24
 add-self-3 : tie.Need-add-self-3
-add-self-3 c =
-    let a = c .before .before .before .before .before .before .before .before .args in
-    let p = c .before .before .before .before .before .before .before .before .pre in
-    let chosen4 = c .before .chosen4 in
-    let chosen5 = c .chosen5 in
-    omega (
-      arith,
-      chosen-most (eqb (a .days) (a .self .day)) (a .self .payable) 0 (chosen4 .result) (chosen4 .ensures),
-      chosen-most (a .marked) (a .payable) 0 (chosen5 .result) (chosen5 .ensures),
-      p,
-    )
+add-self-3 c = omega arith
 
 -- src/tally.rt:56:5
 returns : tie.Need-returns
@@ -82,7 +55,7 @@ returns c =
     let chosen3 = c .before .before .chosen3 in
     let chosen4 = c .before .chosen4 in
     let chosen5 = c .chosen5 in
-    rw (chosen .ensures, lesser .ensures, chosen2 .ensures, chosen3 .ensures, chosen4 .ensures, chosen5 .ensures)
+    rw ((chosen .ensures .0), lesser .ensures, chosen2 .ensures .0, chosen3 .ensures .0, chosen4 .ensures .0, chosen5 .ensures .0)
 
 pub settle-spec : {M : Type 1} → statement M
 settle-spec =

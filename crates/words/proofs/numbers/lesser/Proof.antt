@@ -1,0 +1,13 @@
+-- `min` by the two arms. Assumes nothing.
+use native.Mathlib.Omega.{arith}
+use Rattle.words.proofs.numbers.lesser.Statement.{statement}
+use Rattle.words.proofs.numbers.lesser.Tie as tie
+
+returns : tie.Need-returns
+returns c = omega arith
+
+returns-2 : tie.Need-returns-2
+returns-2 c = omega arith
+
+pub lesser-spec : {M : Type 1} → statement M
+lesser-spec = tie.close (tie.spec returns returns-2)
