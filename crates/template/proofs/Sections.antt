@@ -1,9 +1,9 @@
 -- Each row as one difference, as the code computes it; and the sections one after the other. Assumes nothing.
-use Prim.Native.Nat.{ℕ, suc, _+_, _-_, _*_, _^_, _<_}
-use mathlib.Core.Path.{_≡_, refl, sym, _∙_, ap}
+use Prim.Native.Nat.{ℕ, _+_, _-_, _*_, _^_, _<_}
+use mathlib.Core.Path.{_≡_, sym, _∙_, ap, subst}
 use mathlib.Core.List.{List}
 use native.Mathlib.Omega.{arith}
-use lib.IntN.{ℤ, pos, subℕ, natAbs, _*ℤ_}
+use lib.IntN.{ℤ, pos, subℕ, natAbs}
 use lib.ListN.{replicate}
 use lib.Signed.{mag}
 use mir.Syntax.{w64}
@@ -11,7 +11,7 @@ use mir.Val.{ofZ, toZ}
 use Rattle.rules.specs.declared.Sums.{Sums}
 use Rattle.rules.specs.Ratio.{tier1Of, ratioOf}
 use Rattle.rules.specs.Rows.{onBalance, ofDerivativeRows, ofFinancingRows, ofOffBalanceRows, exposureRow, rowsOf}
-use Rattle.rules.proofs.Differences.{Difference, by-sign, sub-pos, pos-eq, neg-eq, of-pos, of-minus, plus, as-difference}
+use Rattle.rules.proofs.Differences.{Difference, of-pos, of-minus, of-sub, as-difference, same, plus, times}
 use Rattle.theorems.proofs.ExposureSum.{exposure-row-is}
 use Rattle.template.specs.Sections.{Small, countedUp, countedDown, withOnBalance, withDerivatives, withFinancing, withOffBalance, withRatio}
 use Rattle.template.proofs.Reading.{read}
@@ -39,16 +39,12 @@ module _ (s : Sums) where
 -- ---- row 20
 
 pub tier1-is : (gain loss x y : ℕ) → x ≡ 1000 * gain → y ≡ 1000 * loss → Difference (tier1Of gain loss) x y
-tier1-is gain loss x y e f = record {
-  is = by-sign gain loss (λ (z : ℤ). pos 1000 *ℤ z ≡ subℕ x y)
-      (λ h. pos-eq (1000 * (gain - loss)) x y (omega arith))
-      (λ h. neg-eq (1000 * suc (loss - suc gain)) x y (omega arith));
-}
+tier1-is gain loss x y e f = as-difference x y (times 1000 (of-sub gain loss)) (omega arith)
 
 -- ---- row 21
 
 row21 : (s : Sums) → Small s → exposureRow s ≡ pos (countedUp s - countedDown s)
-row21 s h = exposure-row-is s .is ∙ sub-pos (countedUp s) (countedDown s) (h .within)
+row21 s h = same (exposure-row-is s) (as-difference _ _ (of-pos (countedUp s - countedDown s)) (omega (arith, h .within)))
 
 pub exposure-is : (s : Sums) → Small s → (up down : ℕ) → up ≡ countedUp s → down ≡ countedDown s → pos (up - down) ≡ exposureRow s
 exposure-is s h up down e f = sym (row21 s h ∙ ap pos (omega arith))
@@ -57,7 +53,7 @@ pub exposure-small : (s : Sums) → Small s → (exposed : ℕ) → pos exposed 
 exposure-small s h exposed e = omega (arith, ap natAbs (e ∙ row21 s h), h .up)
 
 pub exposed-is : (s : Sums) (exposed : ℕ) → pos exposed ≡ exposureRow s → Difference (exposureRow s) exposed 0
-exposed-is s exposed e = record { is = sym e ∙ of-pos exposed .is }
+exposed-is s exposed e = subst (λ (z : ℤ). Difference z exposed 0) e (of-pos exposed)
 
 -- ---- the sections one after the other
 

@@ -19,7 +19,7 @@ use Rattle.rules.specs.Filing.{outcomeOf, accepted}
 use Rattle.rules.proofs.Lists.{Every, total-le}
 use Rattle.rules.proofs.Lists
 use Rattle.rules.proofs.Weighted.{mono-x}
-use Rattle.rules.proofs.Differences.{Difference, pos-eq, of-pos, of-minus, plus, as-difference}
+use Rattle.rules.proofs.Differences.{Difference, of-pos, of-minus, as-difference, same, plus}
 use Rattle.theorems.specs.Exposure.{exposureOf}
 use Rattle.theorems.specs.Claims.{ExposureIsSum}
 use Rattle.theorems.proofs.Accepted.{Accepted, accepted-is}
@@ -156,10 +156,10 @@ exposure-row-is s = as-difference _ _ (plus (plus (plus on-balance derivative) f
 pub exposure-is-sum : ExposureIsSum
 unfolding sumsOf
 exposure-is-sum ws rows entries items left e =
-    as-difference (sumOver (exposureOf bands) items) 0 (exposure-row-is (sumsOf bands items))
-    (omega (arith, ups-are bands items, downs-are bands items, book-balance bands items (rw (a .read) at (valid-items ws)) (rw (a .read) at (book-within (itemsOf ws .records) (all-within _ _ left (a .fits))))))
-    .is
-    ∙ sym (pos-eq (sumOver (exposureOf bands) items) (sumOver (exposureOf bands) items) 0 (omega arith))
+    same
+    (as-difference (sumOver (exposureOf bands) items) 0 (exposure-row-is (sumsOf bands items))
+    (omega (arith, ups-are bands items, downs-are bands items, book-balance bands items (rw (a .read) at (valid-items ws)) (rw (a .read) at (book-within (itemsOf ws .records) (all-within _ _ left (a .fits)))))))
+    (of-pos (sumOver (exposureOf bands) items))
   where
     bands : Bands
     bands = headOf ws .bands

@@ -3,7 +3,7 @@ use Prim.Native.Nat.{_-_}
 use mathlib.Core.Path.{_∙_}
 use native.Mathlib.Omega.{arith}
 use borrow.Author.Needs.{needs}
-use Rattle.rules.proofs.Differences.{neg-eq, pos-eq}
+use Rattle.rules.proofs.Differences.{of-pos, of-minus, as-difference}
 use Rattle.template.proofs.Reading.{read}
 use Rattle.template.proofs.signed.signed.Statement.{statement}
 use Rattle.template.proofs.signed.signed.Tie as tie
@@ -24,7 +24,7 @@ below-zero-requires c κs = search needs
 returns : tie.Need-returns
 returns c =
     let a = c .before .before .args in
-    read (c .below-zero .ok) (c .below-zero .ensures ∙ neg-eq (a .down - a .up) (a .up) (a .down) (omega arith))
+    read (c .below-zero .ok) (c .below-zero .ensures ∙ as-difference (a .up) (a .down) (of-minus (a .down - a .up)) (omega arith) .is)
 
 -- src/signed.rt:30:5
 whole-requires : tie.Need-whole-requires
@@ -34,7 +34,7 @@ whole-requires c κs = search needs
 returns-2 : tie.Need-returns-2
 returns-2 c =
     let a = c .before .before .args in
-    read (c .whole .ok) (c .whole .ensures ∙ pos-eq (a .up - a .down) (a .up) (a .down) (omega arith))
+    read (c .whole .ok) (c .whole .ensures ∙ as-difference (a .up) (a .down) (of-pos (a .up - a .down)) (omega arith) .is)
 
 pub signed-spec : {M : Type 1} → statement M
 signed-spec =
