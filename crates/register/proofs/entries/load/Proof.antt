@@ -84,7 +84,7 @@ module _ {M : Type 1} (𝓤 : URA M) (H : Heap 𝓤) (A : Atoms 𝓤) (W : Given
         assigns ! (bin ! (load ! (from ! (fld ! refl (stop !))) (look-in ! 10 (sub ! 0 refl (whole !)))) (load ! (from ! (stop !)) (look ! 4 refl)) tt) (from ! (stop !)) (init ! 2 refl (tt, tt)) $ rewrite ! 2 (λ (p : ℕ). ‵ (fat fullShare tyPtr l₅ 0 (vptr b p))) (place16 o i) refl $
         poke-in ! tt R (Is R) (shows 𝓤 H A R) (LL.vals TE.the-type TE′.the-laws) (LL.tells TE.the-type TE′.the-laws) (named 0) ys i e within (λ _.
         assigns ! (of-opd ! (load ! (from ! (stop !)) (look ! 6 refl))) (from ! (hop ! (look ! 2 refl) (stop !))) (store-raw ! 0 refl (typed 𝓤 H A W e is)) $
-        poke-out ! tt R (Is R) (makes 𝓤 H A) (LL.vals TE.the-type TE′.the-laws) (named 0) ys refl room i e within e (mach e ∷ []) is $
+        poke-out ! tt R (Is R) (makes 𝓤 H A) (named 0) ys refl room i within e (mach e ∷ []) is $
         assigns ! (of-opd ! (unit-lit !)) (from ! (stop !)) (init ! 12 refl (tt, tt)) $
         returns ! (look ! 12 refl) $ forget ! 2 refl $ forget ! 4 refl $ forget ! 6 refl $ forget ! 8 refl $ forget ! 10 refl $ forget ! 12 refl $
         move ! (12 ∷ 13 ∷ []) $ free1 ! $ move ! (10 ∷ 11 ∷ []) $ free1 ! $ move ! (8 ∷ 9 ∷ []) $ free1 ! $ move ! (6 ∷ 7 ∷ []) $ free1 ! $ move ! (4 ∷ 5 ∷ []) $ free1 ! $ move ! (2 ∷ 3 ∷ []) $ free1 ! $ free0 ! $
