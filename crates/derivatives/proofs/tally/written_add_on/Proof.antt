@@ -54,7 +54,7 @@ chosen-requires-2 c κs = search needs
 
 returns : tie.Need-returns
 unfolding writtenAddOn
-returns c = simp ((c .chosen2 .ensures), (c .before .before .bit3 .ensures), (c .before .lesser .ensures), (c .before .before .before .chosen .ensures), (c .before .before .before .before .before .before .bit2 .ensures), (c .before .before .before .before .wide3 .ensures), (c .before .before .before .before .before .size2 .ensures), (c .before .before .before .before .before .before .before .before .before .wide .ensures), (c .before .before .before .before .before .before .before .wide2 .ensures), (c .before .before .before .before .before .before .before .before .before .before .credit-factor .ensures), (c .before .before .before .before .before .before .before .before .before .before .before .bit .ensures), (c .before .before .before .before .before .before .before .before .size .ensures)) (bounded-is (bitOf 21 (c .before .before .before .before .before .before .before .before .before .before .before .before .args .w)) (bitOf 22 (c .before .before .before .before .before .before .before .before .before .before .before .before .args .w)) (creditFactor (bitOf 20 (c .before .before .before .before .before .before .before .before .before .before .before .before .args .w)) * sizeOf (c .before .before .before .before .before .before .before .before .before .before .before .before .args .notional)) (1000 * sizeOf (c .before .before .before .before .before .before .before .before .before .before .before .before .args .premiums)))
+returns c = simp ((c .chosen2 .ensures .0), (c .before .before .bit3 .ensures), (c .before .lesser .ensures), (c .before .before .before .chosen .ensures .0), (c .before .before .before .before .before .before .bit2 .ensures), (c .before .before .before .before .wide3 .ensures), (c .before .before .before .before .before .size2 .ensures), (c .before .before .before .before .before .before .before .before .before .wide .ensures), (c .before .before .before .before .before .before .before .wide2 .ensures), (c .before .before .before .before .before .before .before .before .before .before .credit-factor .ensures), (c .before .before .before .before .before .before .before .before .before .before .before .bit .ensures), (c .before .before .before .before .before .before .before .before .size .ensures)) (bounded-is (bitOf 21 (c .before .before .before .before .before .before .before .before .before .before .before .before .args .w)) (bitOf 22 (c .before .before .before .before .before .before .before .before .before .before .before .before .args .w)) (creditFactor (bitOf 20 (c .before .before .before .before .before .before .before .before .before .before .before .before .args .w)) * sizeOf (c .before .before .before .before .before .before .before .before .before .before .before .before .args .notional)) (1000 * sizeOf (c .before .before .before .before .before .before .before .before .before .before .before .before .args .premiums)))
 
 pub written-add-on-spec : {M : Type 1} → statement M
 written-add-on-spec =
