@@ -1,4 +1,5 @@
-//! The library and Rust on the same books, in turns, in one run.
+//! The library and two Rust implementations on the same books, in turns, in
+//! one run: the model, which is plain Rust, and `fast`, which is tuned.
 
 use std::hint::black_box;
 use std::time::Instant;
@@ -6,12 +7,13 @@ use std::time::Instant;
 use crate::filing::Filing;
 use crate::generate::{correct_count, word, Random};
 use crate::model::{Entry, ROWS};
-use crate::{fast, library};
+use crate::{fast, library, model};
 
 const SIZES: [usize; 3] = [1 << 10, 1 << 15, 1 << 20];
-/// Words per measurement: short books are filed many times in each.
+/// Words per measurement, in as many books as they make: all different, since
+/// a processor learns a short book that is filed again and again by heart.
 const WORDS_PER_MEASUREMENT: usize = 1 << 20;
-const REPETITIONS: usize = 25;
+const REPETITIONS: usize = 41;
 
 /// Writes one item, with its members, of about the same words each time.
 type Item = fn(&mut Vec<u32>, &mut Random);
@@ -25,18 +27,24 @@ const BOOKS: [(&str, Item, Option<usize>); 5] = [
     ("off-balance", off_balance, None),
 ];
 
+const NOTES: &str = "\
+Ratios are times of the library over times of Rust, in the middle of all
+repetitions; the best times are in ns per word. Noise is how far the middle
+lies above the best. Rows and register are not cleared between filings.
+";
+
 pub fn run() {
-    println!("ratio of library to Rust, of the best times and in the middle repetition;");
-    println!("ns per word; millions of words per second;");
-    println!("noise is how far the middle repetition lies above the best");
-    println!(
-        "{:<19}{:>8}  {:>6}{:>8}  {:>8}{:>8}  {:>8}{:>8}{:>8}  noise: library, Rust, sum",
-        "book", "words", "ratio", "middle", "library", "Rust", "library", "Rust", "sum"
-    );
+    println!("{NOTES}");
+    println!("| book | words | of plain Rust | of tuned Rust | library, ns | plain, ns | tuned, ns | library, M words/s | summing, M words/s | noise: library, plain, tuned |");
+    println!("|---|--:|--:|--:|--:|--:|--:|--:|--:|---|");
     for (name, item, words_per_protection) in BOOKS {
         for size in SIZES {
             let protections = words_per_protection.map_or(0, |words| size / words);
-            measure(name, &book(size, protections.min(4_096), item));
+            let mut random = Random::new(7);
+            let books: Vec<Vec<u32>> = (0..WORDS_PER_MEASUREMENT / size)
+                .map(|_| book(size, protections.min(4_096), item, &mut random))
+                .collect();
+            measure(name, size, &books);
         }
     }
 }
@@ -60,6 +68,12 @@ impl Timing {
     fn millions_per_second(&self) -> f64 {
         1_000.0 / self.best()
     }
+
+    /// The middle of the ratios to another, repetition by repetition.
+    fn ratio(&self, other: &Timing) -> f64 {
+        let pairs = self.times.iter().zip(&other.times);
+        middle(pairs.map(|(own, other)| own / other).collect())
+    }
 }
 
 fn middle(mut numbers: Vec<f64>) -> f64 {
@@ -67,67 +81,67 @@ fn middle(mut numbers: Vec<f64>) -> f64 {
     numbers[numbers.len() / 2]
 }
 
-fn measure(name: &str, book: &[u32]) {
-    let protections = (book[0] & 0xFFFF) as usize;
+fn measure(name: &str, size: usize, books: &[Vec<u32>]) {
+    let protections = (books[0][0] & 0xFFFF) as usize;
     let mut register = vec![Entry::default(); protections];
     let mut rows = [0; ROWS];
-    let mut file = |filing: Filing| {
+    let mut file = |book: &[u32], filing: Filing| {
         let answer = filing(black_box(book), &mut rows, &mut register);
         assert_eq!(answer.number, 0, "{name} at {}", answer.place);
         black_box(&rows);
     };
-    let sum = || {
+    let sum = |book: &[u32]| {
         let sum: u64 = black_box(book).iter().map(|&word| u64::from(word)).sum();
         black_box(sum);
     };
 
-    let [mut library, mut rust, mut summing] = [(); 3].map(|()| Timing::default());
-    let mut ratios = Vec::new();
+    let [mut library, mut plain, mut tuned, mut summing] = [(); 4].map(|()| Timing::default());
     for _ in 0..REPETITIONS {
-        // In turns, so that a change in the machine's pace meets all three.
-        let library_time = time(book, || file(library::file));
-        let rust_time = time(book, || file(fast::file));
-        library.times.push(library_time);
-        rust.times.push(rust_time);
-        summing.times.push(time(book, sum));
-        ratios.push(library_time / rust_time);
+        // In turns, so that a change in the machine's pace meets all of them.
+        library
+            .times
+            .push(time(books, |book| file(book, library::file)));
+        plain
+            .times
+            .push(time(books, |book| file(book, model::file)));
+        tuned.times.push(time(books, |book| file(book, fast::file)));
+        summing.times.push(time(books, sum));
     }
     println!(
-        "{name:<19}{:>8}  {:>6.2}{:>8.2}  {:>8.2}{:>8.2}  {:>8.0}{:>8.0}{:>8.0}  {:.0}%, {:.0}%, {:.0}%",
-        book.len(),
-        library.best() / rust.best(),
-        middle(ratios),
+        "| {name} | {} | {:.2} | {:.2} | {:.2} | {:.2} | {:.2} | {:.0} | {:.0} | {:.0}%, {:.0}%, {:.0}% |",
+        size,
+        library.ratio(&plain),
+        library.ratio(&tuned),
         library.best(),
-        rust.best(),
+        plain.best(),
+        tuned.best(),
         library.millions_per_second(),
-        rust.millions_per_second(),
         summing.millions_per_second(),
         library.noise(),
-        rust.noise(),
-        summing.noise(),
+        plain.noise(),
+        tuned.noise(),
     );
 }
 
-fn time(book: &[u32], mut once: impl FnMut()) -> f64 {
-    let times = (WORDS_PER_MEASUREMENT / book.len()).max(1);
+fn time(books: &[Vec<u32>], mut once: impl FnMut(&[u32])) -> f64 {
+    let words: usize = books.iter().map(Vec::len).sum();
     let start = Instant::now();
-    for _ in 0..times {
-        once();
+    for book in books {
+        once(book);
     }
-    start.elapsed().as_nanos() as f64 / (times * book.len()) as f64
+    start.elapsed().as_nanos() as f64 / words as f64
 }
 
 /// A book of as many items as fit into `size` words, behind protections that
 /// are all large enough for the covers that will name them.
-fn book(size: usize, protections: usize, item: Item) -> Vec<u32> {
-    let mut random = Random::new(7);
+fn book(size: usize, protections: usize, item: Item, random: &mut Random) -> Vec<u32> {
     let mut words = vec![word(1, protections as u32), 1_000_000];
     for _ in 0..protections {
         words.extend([word(3, 5 | 9 << 16), (1 << 27) - 1, 0, 65_535]);
     }
     loop {
         let fitting = words.len();
-        item(&mut words, &mut random);
+        item(&mut words, random);
         if words.len() >= size {
             words.truncate(fitting);
             break;
