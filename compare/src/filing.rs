@@ -106,9 +106,16 @@ impl Counts {
         }
     }
 
-    /// The first number that never came.
-    pub fn missing(&self) -> Option<usize> {
-        self.numbers.iter().position(|&count| count == 0)
+    /// That every number and every verdict came.
+    pub fn complete(&self) -> Result<(), String> {
+        let never = |counts: &[u64]| counts.iter().position(|&count| count == 0);
+        if let Some(number) = never(&self.numbers) {
+            return Err(format!("number {number} never came"));
+        }
+        match never(&self.verdicts) {
+            Some(verdict) => Err(format!("verdict {verdict} never came")),
+            None => Ok(()),
+        }
     }
 }
 

@@ -31,6 +31,18 @@ pub fn word(kind: u32, payload: u32) -> u32 {
     kind << 28 | payload
 }
 
+/// A record's amounts by its kind.
+pub fn amounts(kind: u32) -> usize {
+    match kind {
+        1 | 7 | 10 => 1,
+        2..=4 => 3,
+        5 => 4,
+        6 => 5,
+        9 => 7,
+        _ => 0,
+    }
+}
+
 /// Writes the count into the last word if that is an end word.
 pub fn correct_count(words: &mut [u32]) {
     if let Some((last, before)) = words.split_last_mut() {

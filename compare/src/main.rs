@@ -5,16 +5,18 @@
 
 #[cfg(feature = "library")]
 mod bench;
-mod cases;
 #[cfg(feature = "library")]
 mod comparison;
 mod fast;
 mod filing;
 mod generate;
+mod laws;
 #[cfg(feature = "library")]
 #[allow(unsafe_code)]
 mod library;
 mod model;
+mod reached;
+mod samples;
 mod selftest;
 mod text;
 
@@ -28,7 +30,7 @@ selftest N SEED    check the model on N generated books
 compare N SEED     compare the library with the model (feature `library`)
 bench              time the library and Rust (feature `library`)
 text FILE          turn a text book into little-endian words on standard output
-cases N SEED DIR   write N books and the answers expected of them";
+samples N SEED DIR write the books of the test program and its lines";
 
 fn main() -> ExitCode {
     let arguments: Vec<String> = env::args().skip(1).collect();
@@ -48,8 +50,8 @@ fn run(arguments: &[&str]) -> Result<(), String> {
         ["compare", books, seed] => compare(number(books)?, number(seed)?),
         ["bench"] => bench(),
         ["text", file] => print_words(file),
-        ["cases", books, seed, folder] => {
-            cases::write(number(books)?, number(seed)?, Path::new(folder))
+        ["samples", books, seed, folder] => {
+            samples::write(number(books)?, number(seed)?, Path::new(folder))
         }
         _ => Err(USAGE.to_string()),
     }

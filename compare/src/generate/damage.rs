@@ -3,7 +3,7 @@
 
 mod record;
 
-use super::{correct_count, word, Book, Random, AMOUNT_LIMIT};
+use super::{amounts, correct_count, word, Book, Random, AMOUNT_LIMIT};
 
 /// The sign of an amount; alone it is minus zero.
 const SIGN: u32 = AMOUNT_LIMIT;
@@ -90,18 +90,6 @@ fn end(words: &mut Vec<u32>, random: &mut Random) {
                 *last = last.wrapping_add(random.pick(&[1, u32::MAX]));
             }
         }
-    }
-}
-
-/// A record's amounts by its kind.
-fn amounts(kind: u32) -> usize {
-    match kind {
-        1 | 7 | 10 => 1,
-        2..=4 => 3,
-        5 => 4,
-        6 => 5,
-        9 => 7,
-        _ => 0,
     }
 }
 

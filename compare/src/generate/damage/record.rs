@@ -1,7 +1,7 @@
 //! Damage to one record, which begins at `start` and lies wholly in the book.
 
-use super::super::{word, Random};
-use super::{amounts, SIGN};
+use super::super::{amounts, word, Random};
+use super::SIGN;
 
 pub fn damage(words: &mut Vec<u32>, start: usize, kind: u32, random: &mut Random) {
     match random.below(8) {

@@ -1,18 +1,11 @@
 //! The paper's samples and its printed case.
 
 use super::*;
+use crate::text::words;
 
 #[test]
 fn printed_case() {
-    let book = [
-        0x1000_0000,
-        0x0000_0032,
-        0x2000_0000,
-        0x0000_03E8,
-        0x0000_0014,
-        0x0000_000A,
-        0xF000_0006,
-    ];
+    let book = words(include_str!("../../../books/printed.txt")).unwrap();
     let mut rows = [0; ROWS];
     assert_eq!(file(&book, &mut rows, &mut []).verdict, 0);
     let mut expected = [0; ROWS];

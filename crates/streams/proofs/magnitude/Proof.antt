@@ -1,13 +1,13 @@
 use mir.Syntax.{w64}
 use mir.ValLaws.{toZ-ofZ}
-use Rattle.leverage_print.proofs.Magnitudes.{abs-fits, flip, flip-is, flip-fits, flip-not-negative, flip-next, not-negative}
+use Rattle.streams.proofs.Magnitudes.{abs-fits, flip, flip-is, flip-fits, flip-not-negative, flip-next, not-negative}
 use borrow.Author.Needs.{needs}
-use Rattle.leverage_print.proofs.magnitude.Statement.{statement}
-use Rattle.leverage_print.proofs.magnitude.Tie as tie
-use Rattle.leverage_print.proofs.magnitude.Reads as reads
-use Rattle.leverage_print.proofs.magnitude.Lts as lts
+use Rattle.streams.proofs.magnitude.Statement.{statement}
+use Rattle.streams.proofs.magnitude.Tie as tie
+use Rattle.streams.proofs.magnitude.Reads as reads
+use Rattle.streams.proofs.magnitude.Lts as lts
 
--- src/main.rt:33:17
+-- src/lib.rt:26:17
 sub-result : tie.Need-sub-result
 sub-result c =
     let z = c .before .args .z in
@@ -15,7 +15,7 @@ sub-result c =
     let g = flip-fits z f in
     rw (toZ-ofZ w64 z f, flip-is z) g
 
--- src/main.rt:33:16
+-- src/lib.rt:26:16
 cast-result : tie.Need-cast-result
 cast-result c =
     let z = c .before .args .z in
@@ -23,7 +23,7 @@ cast-result c =
     let g = flip-fits z f in
     rw (toZ-ofZ w64 z f, flip-is z, toZ-ofZ w64 (flip z) g) (flip-not-negative z (rw (toZ-ofZ w64 z f) at (c .if1 .taken)), abs-fits (flip z) g)
 
--- src/main.rt:33:16
+-- src/lib.rt:26:16
 add-result : tie.Need-add-result
 add-result c =
     let z = c .before .args .z in
@@ -31,18 +31,18 @@ add-result c =
     let g = flip-fits z f in
     rw (toZ-ofZ w64 z f, flip-is z, toZ-ofZ w64 (flip z) g) (flip-next z f)
 
--- src/main.rt:33:45
+-- src/lib.rt:26:45
 cast-result-2 : tie.Need-cast-result-2
 cast-result-2 c =
     let z = c .before .args .z in
     let f = c .before .fits .z in
     rw (toZ-ofZ w64 z f) (not-negative z (rw (toZ-ofZ w64 z f) at (c .if1 .left)), abs-fits z f)
 
--- src/main.rt:32:1
+-- src/lib.rt:25:1
 returns : tie.Need-returns
 returns c = search needs
 
--- src/main.rt:32:1
+-- src/lib.rt:25:1
 returns-2 : tie.Need-returns-2
 returns-2 c = search needs
 

@@ -1,0 +1,211 @@
+//! What accepted books make use of. Each thing on the list is counted, and one
+//! that never came is a fault of the generator.
+
+mod covers;
+
+use std::collections::BTreeMap;
+
+use crate::generate::{amounts, AMOUNT_LIMIT};
+
+/// What is reached, with the numbers that tell it from others of its name.
+type Feature = (&'static str, [u32; 3]);
+
+/// The ends of the bands and of what days may be.
+const DAYS: [u32; 6] = [0, 365, 366, 1_825, 1_826, MOST_DAYS];
+const MOST_DAYS: u32 = 65_535;
+const LARGEST: u32 = AMOUNT_LIMIT - 1;
+
+/// Bits that are marks, by the kind of their word.
+const MARKS: [(u32, std::ops::Range<u32>); 6] = [
+    (2, 0..1),
+    (4, 0..6),
+    (5, 11..13),
+    (6, 20..23),
+    (8, 0..3),
+    (9, 0..1),
+];
+
+pub struct Reached(BTreeMap<Feature, u64>);
+
+impl Default for Reached {
+    fn default() -> Self {
+        Reached(list().into_iter().map(|feature| (feature, 0)).collect())
+    }
+}
+
+/// A record of an accepted book.
+#[derive(Clone, Copy)]
+struct Record<'a> {
+    kind: u32,
+    payload: u32,
+    amounts: &'a [u32],
+}
+
+impl Record<'_> {
+    fn field(&self, low: u32, width: u32) -> u32 {
+        self.payload >> low & ((1 << width) - 1)
+    }
+}
+
+fn records(book: &[u32]) -> Vec<Record<'_>> {
+    let mut records = Vec::new();
+    let mut rest = book;
+    while let [head, behind @ ..] = rest {
+        let (amounts, next) = behind.split_at(amounts(head >> 28));
+        records.push(Record {
+            kind: head >> 28,
+            payload: head & 0x0FFF_FFFF,
+            amounts,
+        });
+        rest = next;
+    }
+    records
+}
+
+impl Reached {
+    /// Counts what an accepted book uses.
+    pub fn add(&mut self, book: &[u32]) {
+        // Longer books repeat a few records and add nothing here.
+        if book.len() > 20_000 {
+            return;
+        }
+        let records = records(book);
+        for record in &records {
+            self.record(record);
+        }
+        for pair in records.windows(2) {
+            self.neighbours(&pair[0], &pair[1]);
+        }
+        self.covers(&records);
+    }
+
+    /// That everything on the list came.
+    pub fn complete(&self) -> Result<(), String> {
+        let never = |(&(name, numbers), _): (&Feature, &u64)| format!("{name} {numbers:?}");
+        let missing: Vec<String> = self
+            .0
+            .iter()
+            .filter(|(_, &count)| count == 0)
+            .map(never)
+            .collect();
+        match missing.len() {
+            0 => Ok(()),
+            _ => Err(format!("never came: {}", missing.join(", "))),
+        }
+    }
+
+    pub fn print(&self) {
+        let least = self.0.values().min().copied().unwrap_or_default();
+        let features = self.0.len();
+        println!("records, marks, classes, bands, covers, amounts: {features} kinds of use, each {least} times or more");
+    }
+
+    fn came(&mut self, name: &'static str, numbers: [u32; 3]) {
+        if let Some(count) = self.0.get_mut(&(name, numbers)) {
+            *count += 1;
+        }
+    }
+
+    fn record(&mut self, record: &Record) {
+        let kind = record.kind;
+        self.came("kind", [kind, 0, 0]);
+        for (_, bits) in MARKS.iter().filter(|(marked, _)| *marked == kind) {
+            for bit in bits.clone() {
+                self.came("kind, bit, value", [kind, bit, record.field(bit, 1)]);
+            }
+        }
+        for (place, &amount) in (1..).zip(record.amounts) {
+            self.came("kind, amount, extreme", [kind, place, amount]);
+        }
+        match kind {
+            4 => self.came("margin marks", [record.field(0, 5), 0, 0]),
+            5 => self.trade(record),
+            10 => self.came("conversion", [record.field(0, 4), record.field(4, 4), 0]),
+            _ => {}
+        }
+    }
+
+    fn trade(&mut self, trade: &Record) {
+        let class = trade.field(0, 3);
+        let resets = trade.field(11, 1);
+        let (remaining, reset) = (trade.amounts[2], trade.amounts[3]);
+        let deciding = if resets == 1 { reset } else { remaining };
+        let band = match deciding {
+            0..=365 => 0,
+            366..=1_825 => 1,
+            _ => 2,
+        };
+        self.came("class", [class, 0, 0]);
+        self.came("class, resets, band", [class, resets, band]);
+        self.came("days that decide the band", [deciding, resets, 0]);
+        self.came("principal payments", [trade.field(3, 8), 0, 0]);
+        if class == 0 && resets == 1 && remaining > 365 && reset <= 365 {
+            self.came("floor of 5", [0; 3]);
+        }
+    }
+
+    fn neighbours(&mut self, before: &Record, record: &Record) {
+        let empty = matches!(record.kind, 2 | 4 | 8 | 10 | 15);
+        if empty && matches!(before.kind, 4 | 8) {
+            self.came("empty set", [before.kind, 0, 0]);
+        }
+        if (before.kind, record.kind) == (9, 9) {
+            let same_day = u32::from(before.amounts[6] == record.amounts[6]);
+            let marks = [same_day, before.payload, record.payload];
+            self.came("same day, marks of two financing trades", marks);
+        }
+    }
+}
+
+fn list() -> Vec<Feature> {
+    let mut list = Vec::new();
+    for kind in (1..=10).chain([15]) {
+        list.push(("kind", [kind, 0, 0]));
+    }
+    for (kind, bits) in MARKS {
+        for bit in bits {
+            list.extend([0, 1].map(|value| ("kind, bit, value", [kind, bit, value])));
+        }
+    }
+    list.extend((0..32).map(|marks| ("margin marks", [marks, 0, 0])));
+    list.extend(extremes());
+    list.extend((0..7).map(|class| ("class", [class, 0, 0])));
+    for resets in 0..2 {
+        for class in 0..5 {
+            list.extend((0..3).map(|band| ("class, resets, band", [class, resets, band])));
+        }
+        list.extend(DAYS.map(|days| ("days that decide the band", [days, resets, 0])));
+    }
+    list.push(("floor of 5", [0; 3]));
+    list.extend([1, 2, 255].map(|payments| ("principal payments", [payments, 0, 0])));
+    for class in 0..11 {
+        list.extend((0..12).map(|other| ("conversion", [class, other, 0])));
+    }
+    list.extend([4, 8].map(|kind| ("empty set", [kind, 0, 0])));
+    for marks in 0..8 {
+        let numbers = [marks & 1, marks >> 1 & 1, marks >> 2];
+        list.push(("same day, marks of two financing trades", numbers));
+    }
+    list.extend(covers::list());
+    list
+}
+
+/// The smallest and the largest that each amount of each kind can be.
+fn extremes() -> Vec<Feature> {
+    let mut list = Vec::new();
+    for kind in 1..=10 {
+        for place in 1..=amounts(kind) as u32 {
+            let days = matches!((kind, place), (3, 3) | (5, 3) | (5, 4) | (6, 4) | (9, 7));
+            let signed = matches!((kind, place), (1 | 5 | 6, 1));
+            let least = u32::from(kind == 7);
+            let most = if days { MOST_DAYS } else { LARGEST };
+            let mut edges = vec![least, most];
+            if signed {
+                edges.extend([AMOUNT_LIMIT | 1, AMOUNT_LIMIT | LARGEST]);
+            }
+            let extreme = |edge| ("kind, amount, extreme", [kind, place, edge]);
+            list.extend(edges.into_iter().map(extreme));
+        }
+    }
+    list
+}

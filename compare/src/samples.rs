@@ -1,0 +1,186 @@
+//! The books that the test program `leverage_samples` files, and the lines
+//! that it is to write.
+
+use std::fs;
+use std::path::Path;
+
+use crate::filing::Counts;
+use crate::generate::{self, word, Random};
+use crate::model::{self, Answer, Entry, LONGEST_BOOK, ROWS};
+use crate::text;
+
+/// The register of a filing that is lent none.
+const ENTRIES: usize = 1_024;
+/// The rows that the program lends in part or whole, and what is in them first.
+const LENT: usize = 24;
+const DIRT: i64 = -1;
+/// Generated books that are longer would only make the file large.
+const LONG: usize = 1_000;
+
+/// What the paper says of its samples that are not starred: number, place,
+/// verdict, row 21 and row 22.
+const PAPER: [(&str, [i64; 5]); 3] = [
+    (
+        include_str!("../books/printed.txt"),
+        [0, 0, 0, 970_000, 515],
+    ),
+    (
+        include_str!("../books/cover_equal.txt"),
+        [0, 0, 0, 15_000, 6_666],
+    ),
+    (
+        include_str!("../books/cover_senior.txt"),
+        [12, 16, 3, DIRT, DIRT],
+    ),
+];
+
+/// A book, of which the first words are in the file and the others are 0.
+struct Sample {
+    rows: usize,
+    words: usize,
+    stored: Vec<u32>,
+}
+
+impl Sample {
+    fn whole(book: Vec<u32>) -> Self {
+        Sample::filled(ROWS, book.len(), book)
+    }
+
+    fn filled(rows: usize, words: usize, stored: Vec<u32>) -> Self {
+        Sample {
+            rows,
+            words,
+            stored,
+        }
+    }
+
+    fn file(&self, rows: &mut [i64]) -> Answer {
+        let mut book = self.stored.clone();
+        book.resize(self.words, 0);
+        let mut register = [Entry::default(); ENTRIES];
+        model::file(&book, &mut rows[..self.rows], &mut register)
+    }
+
+    fn bytes(&self) -> Vec<u8> {
+        let heading = [self.rows, self.words, self.stored.len()].map(|count| count as u32);
+        let words = heading.iter().chain(&self.stored);
+        words.flat_map(|word| word.to_le_bytes()).collect()
+    }
+}
+
+/// Writes the books to `data/books` and the lines to `stdout`.
+pub fn write(books: u64, seed: u64, folder: &Path) -> Result<(), String> {
+    let mut samples = from_the_paper()?;
+    samples.extend(at_the_edges());
+    samples.extend(generated(books, seed));
+
+    let mut rows = [DIRT; LENT];
+    let mut counts = Counts::default();
+    let mut lines = String::new();
+    for sample in &samples {
+        let answer = sample.file(&mut rows);
+        counts.add(&answer);
+        lines.push_str(&line(&answer, &rows));
+    }
+    lines.push_str(&format!("{} books\n", samples.len()));
+    counts.complete()?;
+
+    let words: Vec<u8> = samples.iter().flat_map(Sample::bytes).collect();
+    save(&folder.join("data/books"), &words)?;
+    save(&folder.join("stdout"), lines.as_bytes())
+}
+
+fn line(answer: &Answer, rows: &[i64]) -> String {
+    let rows: Vec<String> = rows.iter().map(i64::to_string).collect();
+    let rows = rows.join(" ");
+    format!(
+        "{} {} {} {rows}\n",
+        answer.number, answer.place, answer.verdict
+    )
+}
+
+fn save(file: &Path, bytes: &[u8]) -> Result<(), String> {
+    let failed = |error| format!("{}: {error}", file.display());
+    if let Some(folder) = file.parent() {
+        fs::create_dir_all(folder).map_err(failed)?;
+    }
+    fs::write(file, bytes).map_err(failed)
+}
+
+/// The paper's samples, where the model answers what the paper says, and the
+/// book that has every kind of record.
+fn from_the_paper() -> Result<Vec<Sample>, String> {
+    let mut samples = Vec::new();
+    for (source, expected) in PAPER {
+        let sample = Sample::whole(text::words(source)?);
+        let mut rows = [DIRT; LENT];
+        let answer = sample.file(&mut rows);
+        let [number, verdict] = [answer.number, answer.verdict].map(i64::from);
+        let found = [number, answer.place as i64, verdict, rows[20], rows[21]];
+        if found != expected {
+            return Err(format!(
+                "{source}the paper has {expected:?}, the model {found:?}"
+            ));
+        }
+        samples.push(sample);
+    }
+    let every_kind = text::words(include_str!("../books/sample.txt"))?;
+    samples.push(Sample::whole(every_kind));
+    Ok(samples)
+}
+
+/// The lengths and counts at which the first four numbers begin.
+fn at_the_edges() -> Vec<Sample> {
+    let head = |protections| vec![word(1, protections), 7];
+    let counted = |protections| {
+        let mut book = head(protections);
+        book.push(word(15, 2));
+        Sample::whole(book)
+    };
+    let long = |rows, words, kind| Sample::filled(rows, words, vec![word(kind, 0), 7]);
+    vec![
+        Sample::whole(vec![]),
+        Sample::whole(vec![word(1, 0)]),
+        Sample::whole(all_entries()),
+        counted(1_024),
+        counted(1_025),
+        counted(4_096),
+        counted(4_097),
+        long(ROWS, LONGEST_BOOK, 1),
+        long(ROWS, LONGEST_BOOK, 2),
+        long(ROWS, LONGEST_BOOK + 1, 1),
+        long(ROWS, LONGEST_BOOK + 1, 2),
+        long(ROWS - 1, LONGEST_BOOK + 1, 1),
+        Sample::filled(0, 0, vec![]),
+    ]
+}
+
+/// As many protections as there are entries; the last one covers a credit.
+fn all_entries() -> Vec<u32> {
+    let count = ENTRIES as u32;
+    let mut book = vec![word(1, count), 7];
+    for rank in (0..count).map(|place| place % 16) {
+        book.extend([word(3, 5 | rank << 16), 9, 2, 30]);
+    }
+    book.extend([word(4, 1), 0, 0, 0]);
+    book.extend([word(6, 5 | 15 << 16), 0, 7, 0, 30, 0]);
+    book.extend([word(7, count - 1), 7]);
+    book.push(word(15, book.len() as u32));
+    book
+}
+
+fn generated(books: u64, seed: u64) -> Vec<Sample> {
+    let mut random = Random::new(seed);
+    let mut samples = Vec::new();
+    while (samples.len() as u64) < books {
+        let book = generate::book(&mut random);
+        let rows = match random.below(50) {
+            0 => random.index(ROWS),
+            _ => random.between(ROWS as u32, LENT as u32) as usize,
+        };
+        if book.len() <= LONG {
+            samples.push(Sample::filled(rows, book.len(), book));
+        }
+    }
+    samples
+}
