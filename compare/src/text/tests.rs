@@ -16,6 +16,38 @@ fn printed_case() {
     assert_eq!(words(printed).unwrap(), expected);
 }
 
+/// The words in the tables of the page on the format, a list for each table.
+fn tables(page: &str) -> Vec<Vec<u32>> {
+    let mut tables: Vec<Vec<u32>> = Vec::new();
+    for line in page.lines() {
+        let cells: Vec<&str> = line.split('|').map(str::trim).collect();
+        let [_, place, word, ..] = cells[..] else {
+            continue;
+        };
+        let Some(word) = word.strip_prefix("0x") else {
+            continue;
+        };
+        if place == "0" {
+            tables.push(Vec::new());
+        }
+        let table = tables.last_mut().unwrap();
+        assert_eq!(place, table.len().to_string());
+        table.push(u32::from_str_radix(word, 16).unwrap());
+    }
+    tables
+}
+
+#[test]
+fn worked_books_are_those_of_the_page() {
+    let page = tables(include_str!("../../../docs/FORMAT.md"));
+    let printed = words(include_str!("../../books/printed.txt"));
+    let worked = words(include_str!("../../books/worked.txt")).unwrap();
+    let mut rows = [0; ROWS];
+    file(&worked, &mut rows, &mut [Entry::default()]);
+    assert_eq!([rows[4], rows[20], rows[21]], [8_320, 111_320, 1_077]);
+    assert_eq!(page, [printed.unwrap(), worked]);
+}
+
 #[test]
 fn sample_has_every_kind_and_is_accepted() {
     let book = words(include_str!("../../books/sample.txt")).unwrap();
