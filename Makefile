@@ -2,6 +2,7 @@
 # make test:    the gate, .ci/run.
 # make samples: write the books of leverage_samples and the lines expected of it, from the seed.
 # make model:   check the implementation in compare/ by itself, and that those files are the ones it writes.
+# make printing: hold the printing program to that implementation, on the books in compare/books and on bad input.
 # make compare: file a million generated books through the static library and through that implementation.
 # make example: build and run include/example.c and the two callers in README.md.
 # make bench:   time the library and Rust on the same books.
@@ -14,13 +15,12 @@ MODEL = target/model/release/compare
 COMPARE = target/compare/release/compare
 ARCHIVE = target/staticlib/libleverage.a
 
-.PHONY: run test samples model compare example bench second library
-run: second
-	@test -x target/bin/leverage_print || echo "proving leverage_print: some minutes, once" >&2
-	@rt check leverage_print > /dev/null 2>&1 || rt check leverage_print
+.PHONY: run test samples model printing compare example bench printer second library
+run: second printer
+	@$(MODEL) text $(BOOK) > target/input
 	@cat $(BOOK)
 	@echo
-	@$(MODEL) text $(BOOK) | target/bin/leverage_print
+	@target/bin/leverage_print < target/input
 
 test:
 	@.ci/run
@@ -35,6 +35,13 @@ model: second
 	@cmp target/samples/data/books crates/leverage_samples/data/books
 	@cmp target/samples/stdout crates/leverage_samples/stdout
 
+# Both printing programs on the same input: books, bytes that are none, as many words as there is room for and one more.
+SAME = target/bin/leverage_print < target/input > target/printed && $(MODEL) print < target/input | cmp - target/printed
+printing: second printer
+	@for book in compare/books/*.txt; do $(MODEL) text $$book > target/input && $(SAME) || exit 1; done
+	@for size in 0 3 8 65536 65537 65540; do head -c $$size /dev/zero > target/input && $(SAME) || exit 1; done
+	@for sets in 16381 16382; do (echo tier1 1; yes financing | head -n $$sets) > target/full.txt && $(MODEL) text target/full.txt > target/input && $(SAME) || exit 1; done
+
 compare: library
 	@$(COMPARE) compare $(BOOKS) $(SEED)
 
@@ -46,6 +53,10 @@ example: library
 
 bench: library
 	@$(COMPARE) bench
+
+printer:
+	@test -x target/bin/leverage_print || echo "proving leverage_print: some minutes, once" >&2
+	@rt check leverage_print > /dev/null 2>&1 || rt check leverage_print
 
 # The implementation in compare/ alone, and with the library.
 second:

@@ -15,12 +15,13 @@ mod laws;
 #[allow(unsafe_code)]
 mod library;
 mod model;
+mod printing;
 mod reached;
 mod samples;
 mod selftest;
 mod text;
 
-use std::io::{self, Write};
+use std::io::{self, Read, Write};
 use std::path::Path;
 use std::process::ExitCode;
 use std::{env, fs};
@@ -30,6 +31,7 @@ selftest N SEED    check the model on N generated books
 compare N SEED     compare the library with the model (feature `library`)
 bench              time the library and Rust (feature `library`)
 text FILE          turn a text book into little-endian words on standard output
+print              write what the printing program is to write for standard input
 samples N SEED DIR write the books of the test program and its lines";
 
 fn main() -> ExitCode {
@@ -50,6 +52,7 @@ fn run(arguments: &[&str]) -> Result<(), String> {
         ["compare", books, seed] => compare(number(books)?, number(seed)?),
         ["bench"] => bench(),
         ["text", file] => print_words(file),
+        ["print"] => print_template(),
         ["samples", books, seed, folder] => {
             samples::write(number(books)?, number(seed)?, Path::new(folder))
         }
@@ -67,6 +70,14 @@ fn print_words(file: &str) -> Result<(), String> {
     let bytes: Vec<u8> = words.iter().flat_map(|word| word.to_le_bytes()).collect();
     let written = io::stdout().write_all(&bytes);
     written.map_err(|error| error.to_string())
+}
+
+fn print_template() -> Result<(), String> {
+    let mut bytes = Vec::new();
+    let read = io::stdin().read_to_end(&mut bytes);
+    read.map_err(|error| error.to_string())?;
+    print!("{}", printing::printed(&bytes));
+    Ok(())
 }
 
 #[cfg(feature = "library")]
