@@ -1,6 +1,6 @@
 -- `lacking` goes from the last word to the first. Assumes nothing.
 use Prim.Native.Nat.{_+_, _≤_, _<_}
-use mathlib.Core.Path.{_≡_}
+use mathlib.Core.Path.{_≡_, refl}
 use mathlib.Core.Bool.{_||_}
 use native.Mathlib.Omega.{arith}
 use borrow.Author.Needs.{needs}
@@ -20,10 +20,10 @@ add-if1 : tie.Need-add-if1 Inv-loop μ-loop
 add-if1 c = search needs
 
 returns : tie.Need-returns Inv-loop μ-loop
-returns c = search lacking-short
+returns c = lacking-short (c .before .before .args .ws .now) (c .before .before .args .at) (c .before .before .args .n) (c .before .before .args .n) (omega arith) (omega arith)
 
 loop-holds : tie.Need-loop-holds Inv-loop μ-loop
-loop-holds c = search needs
+loop-holds c = (omega arith, (omega arith, refl))
 
 add-kind : tie.Need-add-kind Inv-loop μ-loop
 add-kind c = search needs
