@@ -31,6 +31,11 @@ pub met : (bands : Bands) (ws : List ℕ) (s : Sums) (from : ℕ) → Fair ws s 
     → (k : ℕ) (b : Bool) → b ≡ stands k ws at → b ≡ true → Met bands ws s from t at k
 met bands ws s from f {at = at} l k b q e = let h = stands-is k ws at (sym q ∙ e) in record { fair = f; leads = l; here = h .0; kind = h .1 }
 
+pub record OneMore (bands : Bands) (ws : List ℕ) (s : Sums) (from at : ℕ) (sums : Sums) (next : ℕ) : Type 0 where
+  pub leads : Leads bands ws s from sums next
+  pub within : next ≤ length ws
+  pub further : at < next
+
 module _ {bands : Bands} {ws : List ℕ} {s : Sums} {from : ℕ} {t : Sums} {at k : ℕ} (m : Met bands ws s from t at k) where
   -- the words from the item on, as the code hands them on
   abbrev part : List ℕ
@@ -57,11 +62,10 @@ module _ {bands : Bands} {ws : List ℕ} {s : Sums} {from : ℕ} {t : Sums} {at 
     answer : itemAnswer bands t (itemTurn ws at) ≡ More sums (at + next)
     answer = sym (item-more bands t ws at (m .here) (kindOf (word ws at)) refl no-end r q sums next e)
 
-    pub on : Leads bands ws s from sums (at + next)
-    on = Leads.more (m .leads) answer
-
-    pub on-within : at + next ≤ length ws
-    on-within = next-within bands t ws at (m .here) (kindOf (word ws at)) refl no-end r q sums next e
-
-    pub on-further : at < at + next
-    on-further = further bands ws s from (m .fair) (m .leads) sums (at + next) answer
+    -- the item in the sums, and the place behind it
+    pub one-more : OneMore bands ws s from at sums (at + next)
+    one-more = record {
+      leads = Leads.more (m .leads) answer;
+      within = next-within bands t ws at (m .here) (kindOf (word ws at)) refl no-end r q sums next e;
+      further = further bands ws s from (m .fair) (m .leads) sums (at + next) answer;
+    }
