@@ -1,45 +1,28 @@
--- A signed number without its sign, by -1 - z, which fits wherever z does. Assumes nothing.
-use mathlib.Core.Path.{_≡_, refl, ap, subst}
+-- The magnitude of a signed number that fits 64 bits, by its sign. Assumes nothing.
+use mathlib.Core.Path.{_≡_, subst}
 use mathlib.Core.Bool.{Bool, true, false}
-use Prim.Native.Nat.{ℕ, zero, suc, _+_, _-_}
-use native.Mathlib.Nat.{zero-add}
+use Prim.Native.Nat.{ℕ, suc, _-_, _^_, _<_}
 use native.Mathlib.Omega.{arith}
 use borrow.Author.Tests.{le-ltb, ltb-true}
-use lib.Dec.{T, ltb}
+use lib.Dec.{T}
 use lib.IntN.{ℤ, pos, negsuc, natAbs, _-ℤ_}
 use lib.Signed.{ltZ, nonNeg}
 use mir.Syntax.{w64}
 use mir.Val.{Fits, SFits}
 
-pub abs-fits : (z : ℤ) → SFits w64 z → Fits w64 (natAbs z)
-abs-fits (pos a) f = omega arith
-abs-fits (negsuc a) f = omega arith
+-- below 0: -1 - z is a natural number, one less than the magnitude, and fits where -z may not
+pub record Below (z : ℤ) : Type 0 where
+  pub less : ℕ
+  pub is : negsuc 0 -ℤ z ≡ pos less
+  pub small : less < 2 ^ 63
 
-abbrev pub flip : ℤ → ℤ
-flip (pos a) = negsuc a
-flip (negsuc a) = pos a
-
-pub flip-is : (z : ℤ) → negsuc 0 -ℤ z ≡ flip z
-flip-is (pos zero) = refl
-flip-is (pos (suc a)) = ap (λ (k : ℕ). negsuc (suc k)) (zero-add a)
-flip-is (negsuc a) =
+pub below : (z : ℤ) → SFits w64 z → ltZ z (pos 0) ≡ true → Below z
+below (pos a) f t = absurd (omega (arith, ltb-true a 0 t))
+below (negsuc a) f t =
     let e : suc a - 1 ≡ a = omega arith in
-    simp (le-ltb (suc a) 1 (omega arith), e)
+    record { less = a; is = simp (le-ltb (suc a) 1 (omega arith), e); small = omega arith }
 
-pub flip-fits : (z : ℤ) → SFits w64 z → SFits w64 (flip z)
-flip-fits (pos a) f = omega arith
-flip-fits (negsuc a) f = omega arith
-
-pub flip-not-negative : (z : ℤ) → ltZ z (pos 0) ≡ true → T (nonNeg (flip z))
-flip-not-negative (pos a) t = omega (arith, ltb-true a 0 t)
-flip-not-negative (negsuc a) t = tt
-
-pub flip-next : (z : ℤ) → SFits w64 z → Fits w64 (natAbs (flip z) + 1)
-flip-next (pos a) f = omega arith
-flip-next (negsuc a) f = omega arith
-
-pub not-negative : (z : ℤ) → ltZ z (pos 0) ≡ false → T (nonNeg z)
-not-negative (pos a) t = tt
-not-negative (negsuc a) t =
-    let e : true ≡ false = t in
-    absurd (subst T e tt)
+-- from 0 on: the number itself
+pub from-zero : (z : ℤ) → SFits w64 z → ltZ z (pos 0) ≡ false → T (nonNeg z) × Fits w64 (natAbs z)
+from-zero (pos a) f t = (tt, omega arith)
+from-zero (negsuc a) f t = absurd (subst T t tt)

@@ -1,6 +1,9 @@
+-- By the sign. Assumes nothing.
+use native.Mathlib.Omega.{arith}
+use lib.IntN.{pos}
 use mir.Syntax.{w64}
 use mir.ValLaws.{toZ-ofZ}
-use Rattle.streams.proofs.Magnitudes.{abs-fits, flip, flip-is, flip-fits, flip-not-negative, flip-next, not-negative}
+use Rattle.streams.proofs.Magnitudes.{below, from-zero}
 use borrow.Author.Needs.{needs}
 use Rattle.streams.proofs.magnitude.Statement.{statement}
 use Rattle.streams.proofs.magnitude.Tie as tie
@@ -12,31 +15,31 @@ sub-result : tie.Need-sub-result
 sub-result c =
     let z = c .before .args .z in
     let f = c .before .fits .z in
-    let g = flip-fits z f in
-    rw (toZ-ofZ w64 z f, flip-is z) g
+    let b = below z f (rw (toZ-ofZ w64 z f) at (c .if1 .taken)) in
+    rw (toZ-ofZ w64 z f, b .is) (record { sfits = b .small })
 
 -- src/lib.rt:26:16
 cast-result : tie.Need-cast-result
 cast-result c =
     let z = c .before .args .z in
     let f = c .before .fits .z in
-    let g = flip-fits z f in
-    rw (toZ-ofZ w64 z f, flip-is z, toZ-ofZ w64 (flip z) g) (flip-not-negative z (rw (toZ-ofZ w64 z f) at (c .if1 .taken)), abs-fits (flip z) g)
+    let b = below z f (rw (toZ-ofZ w64 z f) at (c .if1 .taken)) in
+    rw (toZ-ofZ w64 z f, b .is, toZ-ofZ w64 (pos (b .less)) (record { sfits = b .small })) (tt, omega (arith, b .small))
 
 -- src/lib.rt:26:16
 add-result : tie.Need-add-result
 add-result c =
     let z = c .before .args .z in
     let f = c .before .fits .z in
-    let g = flip-fits z f in
-    rw (toZ-ofZ w64 z f, flip-is z, toZ-ofZ w64 (flip z) g) (flip-next z f)
+    let b = below z f (rw (toZ-ofZ w64 z f) at (c .if1 .taken)) in
+    rw (toZ-ofZ w64 z f, b .is, toZ-ofZ w64 (pos (b .less)) (record { sfits = b .small })) (omega (arith, b .small))
 
 -- src/lib.rt:26:45
 cast-result-2 : tie.Need-cast-result-2
 cast-result-2 c =
     let z = c .before .args .z in
     let f = c .before .fits .z in
-    rw (toZ-ofZ w64 z f) (not-negative z (rw (toZ-ofZ w64 z f) at (c .if1 .left)), abs-fits z f)
+    rw (toZ-ofZ w64 z f) (from-zero z f (rw (toZ-ofZ w64 z f) at (c .if1 .left)))
 
 -- src/lib.rt:25:1
 returns : tie.Need-returns
