@@ -9,7 +9,7 @@ use lib.Signed.{mag}
 use mir.Syntax.{w64}
 use mir.Val.{ofZ, toZ}
 use Rattle.rules.specs.declared.Sums.{Sums}
-use Rattle.rules.specs.Ratio.{tier1Of, ratioOf}
+use Rattle.rules.specs.Ratio.{tier1Of}
 use Rattle.rules.specs.Rows.{onBalance, ofDerivativeRows, ofFinancingRows, ofOffBalanceRows, exposureRow, rowsOf}
 use Rattle.rules.proofs.Differences.{Difference, of-pos, of-minus, of-sub, as-difference, same, plus, times}
 use Rattle.theorems.proofs.ExposureSum.{exposure-row-is}

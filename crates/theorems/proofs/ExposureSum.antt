@@ -1,21 +1,17 @@
 -- Row 21 of an accepted book is the sum of its items' exposures. Assumes nothing.
-use Prim.Native.Nat.{ℕ, zero, suc, _+_, _-_, _*_, _≤_}
-use mathlib.Core.Path.{_≡_, refl, sym, _∙_, ap}
+use Prim.Native.Nat.{ℕ, _+_, _-_, _*_, _≤_}
+use mathlib.Core.Path.{_≡_, refl, ap}
 use mathlib.Core.Bool.{Bool, true, false, cond}
 use mathlib.Core.List.{List, [], _∷_}
 use native.Mathlib.Omega.{arith}
-use native.Mathlib.Nat.{mul-le-mul-right}
-use lib.IntN.{ℤ, pos}
 use Rattle.rules.specs.declared.Bands.{Bands}
-use Rattle.rules.specs.declared.Entry.{Entry}
 use Rattle.rules.specs.declared.Sums.{Sums}
 use Rattle.rules.specs.Factors.{conversionOf}
 use Rattle.rules.specs.Weighted.{weightedOf}
-use Rattle.rules.specs.Book.{Asset, DerivativeSet, FinancingTrade, FinancingSet, OffBalance, Item, asset, derivatives, financing, offBalance, Placed, total}
+use Rattle.rules.specs.Book.{Asset, DerivativeSet, FinancingTrade, FinancingSet, Item, asset, derivatives, financing, offBalance, Placed, total}
 use Rattle.rules.specs.Read.{headOf, itemsOf}
 use Rattle.rules.specs.Weigh.{Tally, netOf, marginOffsets, replacementOf, weightedIn, writtenIn, coversIn, cashNetted, excessOf}
 use Rattle.rules.specs.Rows.{AssetRows, assetRows, tallyIn, grossWeighted, keptWeighted, row1, row2, row4, row5, row6, row7, row8, row9, row10, row12, row13, row14, row15, row17, row18, sumOver, sumsOf, onBalance, ofDerivativeRows, ofFinancingRows, ofOffBalanceRows, exposureRow}
-use Rattle.rules.specs.Filing.{outcomeOf, accepted}
 use Rattle.rules.proofs.Lists.{Every, total-le}
 use Rattle.rules.proofs.Lists
 use Rattle.rules.proofs.Weighted.{mono-x}
