@@ -1,12 +1,13 @@
 -- Whole numbers as differences of natural ones, by which a law of ℤ becomes one of ℕ that `omega` reads. Assumes nothing.
 use Prim.Native.Nat.{ℕ, zero, suc, _+_, _-_, _*_, _≤_, _<_}
-use mathlib.Core.Path.{_≡_, sym, _∙_, ap, subst}
+use mathlib.Core.Path.{_≡_, refl, sym, _∙_, ap, subst}
+use mathlib.Core.Bool.{Bool, true, false}
 use native.Mathlib.Omega.{arith}
 use native.Mathlib.Decide.{decLt}
-use borrow.Author.Tests.{lt-ltb, le-ltb}
-use lib.Dec.{leb→le, le→leb}
+use borrow.Author.Tests.{lt-ltb, le-ltb, le-leb, lt-leb}
+use lib.Dec.{T, leb, leb→le, le→leb}
 use lib.IntN.{ℤ, pos, negsuc, negℤ, subℕ, _+ℤ_, _*ℤ_}
-use lib.Signed.{_≤ℤ_, leZ-yes}
+use lib.Signed.{leZ, _≤ℤ_, leZ-yes}
 
 -- z is a - b
 pub record Difference (z : ℤ) (a b : ℕ) : Type 0 where
@@ -86,6 +87,9 @@ times k e = known (go (by-sign e))
     go (upward n a b e) = upward (k * n) (k * a) (k * b) (omega (arith, ap (λ (m : ℕ). k * m) e))
     go (downward n a b e) = moved _ _ (sign-of-minus (k * suc n)) (omega (arith, ap (λ (m : ℕ). k * m) e))
 
+pub times-minus : (k m : ℕ) → pos k *ℤ negℤ (pos m) ≡ negℤ (pos (k * m))
+times-minus k m = same (times k (of-minus m)) (as-difference _ _ (of-minus (k * m)) (omega arith))
+
 -- ---- the order
 
 pub in-order : {y z : ℤ} {a b c d : ℕ} → Difference y a b → Difference z c d → y ≤ℤ z → a + d ≤ c + b
@@ -105,3 +109,15 @@ ordered e f = go (by-sign e) (by-sign f)
     go (upward m a b e) (downward n c d f) h = let z : ⊥ = omega arith in absurd z
     go (downward m a b e) (upward n c d f) h = leZ-yes tt
     go (downward m a b e) (downward n c d f) h = leZ-yes (le→leb n m (omega arith))
+
+-- the test of it
+pub test-is : {y z : ℤ} {a b c d : ℕ} → Difference y a b → Difference z c d → leZ y z ≡ leb (a + d) (c + b)
+test-is {y} {z} {a} {b} {c} {d} e f = go (leZ y z) refl
+  where
+    go : (t : Bool) → leZ y z ≡ t → t ≡ leb (a + d) (c + b)
+    go true q = sym (le-leb (a + d) (c + b) (in-order e f (leZ-yes (subst T (sym q) tt))))
+    go false q = below (decLt (c + b) (a + d))
+      where
+        below : Dec (c + b < a + d) → false ≡ leb (a + d) (c + b)
+        below (yes h) = sym (lt-leb (a + d) (c + b) h)
+        below (no h) = absurd (subst T q (ordered e f (omega arith) .le))

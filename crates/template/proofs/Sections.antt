@@ -11,7 +11,8 @@ use mir.Val.{ofZ, toZ}
 use Rattle.rules.specs.declared.Sums.{Sums}
 use Rattle.rules.specs.Ratio.{tier1Of}
 use Rattle.rules.specs.Rows.{onBalance, ofDerivativeRows, ofFinancingRows, ofOffBalanceRows, exposureRow, rowsOf}
-use Rattle.rules.proofs.Differences.{Difference, of-pos, of-minus, of-sub, as-difference, same, plus, times}
+use Rattle.rules.proofs.Differences.{Difference, of-pos, of-minus, as-difference, same, plus}
+use Rattle.rules.proofs.RatioCases.{tier1-difference}
 use Rattle.theorems.proofs.ExposureSum.{exposure-row-is}
 use Rattle.template.specs.Sections.{Small, countedUp, countedDown, withOnBalance, withDerivatives, withFinancing, withOffBalance, withRatio}
 use Rattle.template.proofs.Reading.{read}
@@ -39,7 +40,7 @@ module _ (s : Sums) where
 -- ---- row 20
 
 pub tier1-is : (gain loss x y : ℕ) → x ≡ 1000 * gain → y ≡ 1000 * loss → Difference (tier1Of gain loss) x y
-tier1-is gain loss x y e f = as-difference x y (times 1000 (of-sub gain loss)) (omega arith)
+tier1-is gain loss x y e f = as-difference x y (tier1-difference gain loss) (omega arith)
 
 -- ---- row 21
 
