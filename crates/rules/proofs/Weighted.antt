@@ -1,8 +1,8 @@
 -- Laws of the weighted add-on of X at a gross G and a net N (document 01, "Weighing a set"). Assumes nothing.
-use mathlib.Core.Path.{_≡_, refl}
+use mathlib.Core.Path.{_≡_, refl, _∙_}
 use mathlib.Core.Bool.{Bool, true, false, cond}
 use Prim.Native.Nat.{ℕ, _*_, _≤_, _<_}
-use native.Mathlib.Nat.{mul-le-mul-left, mul-le-mul-right, le-of-mul-le-mul-left}
+use native.Mathlib.Nat.{le-antisymm, mul-le-mul-left, mul-le-mul-right, le-of-mul-le-mul-left}
 use native.Mathlib.Omega.{arith}
 use borrow.Author.Tests.{eqb-true, eqb-false}
 use lib.Dec.{eqb}
@@ -40,7 +40,27 @@ at-most x g n h = by-gross g n (λ (w : ℕ → ℕ). w x ≤ x) (λ z. omega ar
 pub five-at-most : (x g n : ℕ) → n ≤ g → 5 * weightedOf x g n ≤ 5 * x
 five-at-most x g n h = omega (arith, at-most x g n h)
 
--- ---- a larger X has no smaller one
+-- ---- a larger X, or a larger net, has no smaller one
 
 pub mono-x : (x x′ g n : ℕ) → x ≤ x′ → weightedOf x g n ≤ weightedOf x′ g n
 mono-x x x′ g n h = by-gross g n (λ (w : ℕ → ℕ). w x ≤ w x′) (λ z. h) (λ p. ceil-mono _ _ _ (omega arith) (mul-le-mul-right _ h))
+
+pub mono-net : (x g n n′ : ℕ) → n ≤ n′ → weightedOf x g n ≤ weightedOf x g n′
+mono-net x g n n′ h = by-gross g n (λ (w : ℕ → ℕ). w x ≤ weightedOf x g n′)
+    (λ z. omega (arith, weighted-none x g n′ z))
+    (λ p. rw (weighted-some x g n′ (λ z. omega arith)) (ceil-mono _ _ _ (omega arith) (mul-le-mul-left x (omega arith))))
+
+-- ---- the two ends of netting
+
+-- nothing netted: X itself
+pub no-netting : (x g : ℕ) → weightedOf x g g ≡ x
+no-netting x g = le-antisymm (at-most x g g (omega arith)) (by-gross g g (λ (w : ℕ → ℕ). x ≤ w x) (λ z. omega arith)
+    (λ h. le-of-mul-le-mul-left (omega (arith, ceil-enough (x * parts g g) (5 * g) (omega arith))) h))
+
+-- all netted: two fifths of X, rounded up
+pub all-netted : (x g : ℕ) → 0 < g → weightedOf x g 0 ≡ ceil (2 * x) 5
+all-netted x g h =
+    weighted-some x g 0 (λ z. omega arith)
+    ∙ le-antisymm
+    (ceil-least _ _ _ (omega arith) (omega (arith, mul-le-mul-right g (ceil-enough (2 * x) 5 (omega arith)))))
+    (ceil-least _ _ _ (omega arith) (le-of-mul-le-mul-left (omega (arith, ceil-enough (x * parts g 0) (5 * g) (omega arith))) h))
