@@ -40,6 +40,7 @@ use Rattle.register.specs.declared.entries.Drawn.{Drawn}
 use Rattle.register.specs.Scan.{protectionPlace, loadedFrom, cursorBehind}
 use Rattle.register.specs.Draws.{nextDraw, drawnDown, faultIn, drawnIn, settling, answerOf, registerOf}
 use Rattle.register.proofs.Cursor as TC
+use Rattle.register.proofs.Cursor.Laws as TC′
 use Rattle.register.proofs.Settlement as TS
 use Rattle.register.proofs.Settlement.Laws as TS′
 use Rattle.register.proofs.covers.Found as TF
@@ -50,7 +51,7 @@ use Rattle.register.proofs.Rows.{Known, told, known, R, mach, IsEntry, 
 use Rattle.register.proofs.Relend.{slice, Claim}
 use Rattle.register.proofs.Lent.{mut-own, shr-own, left, left-shared, left-lent, left-both, Call, calls-plain, calls-lent, calls-passed, calls-both}
 use Rattle.register.proofs.book.entry_from as entry-from′
-use Rattle.register.proofs.covers.first_draw as first-draw′
+use Rattle.register.proofs.covers.cursor_behind as cursor-behind′
 use Rattle.register.proofs.covers.next_draw as next-draw′
 use Rattle.register.proofs.entries.drawn_down as drawn-down′
 use Rattle.register.proofs.entries.empty as empty′
@@ -65,8 +66,8 @@ module _ {M : Type 1} (𝓤 : URA M) (H : Heap 𝓤) (A : Atoms 𝓤) (mem : Mem
   abbrev pub EntryFrom : Contract 𝓤
   EntryFrom = tripleOf 𝓤 H A entry-from′.signature (entry-from′.spec 𝓤 H A mem run)
 
-  abbrev pub FirstDraw : Contract 𝓤
-  FirstDraw = tripleOf 𝓤 H A first-draw′.signature (first-draw′.spec 𝓤 H A mem run)
+  abbrev pub CursorBehind : Contract 𝓤
+  CursorBehind = tripleOf 𝓤 H A cursor-behind′.signature (cursor-behind′.spec 𝓤 H A mem run)
 
   abbrev pub NextDraw : Contract 𝓤
   NextDraw = tripleOf 𝓤 H A next-draw′.signature (next-draw′.spec 𝓤 H A mem run)
@@ -103,6 +104,13 @@ module _ {M : Type 1} (𝓤 : URA M) (H : Heap 𝓤) (A : Atoms 𝓤) (mem : Mem
         qed W [] ∵ nothing ! $ nothing ! $ nothing ! $ owned ! TD.the-row (Is TD.the-row) (draw-makes 𝓤 H A) d _ d-is $ fjoin ! $
         owned ! R (Is R) (makes 𝓤 H A) e _ e-is $ fjoin ! $ move ! (1 ∷ 0 ∷ []) $ join ! $ join ! $ done !
 
+    abbrev pub to-cursor-behind : ℕ → CursorBehind .Ghost
+    to-cursor-behind n = ((tt, tt, tt, (n, tt), (vint w64 n ∷ [], tt)), tt)
+
+    pub cursor-behind-pre : (n : ℕ) → n < 2 ^ 64 → n ≤ 4096 → ent 𝓤 (emp 𝓤) (CursorBehind .pre (to-cursor-behind n))
+    cursor-behind-pre n fits asked =
+        qed W [] ∵ says ! asked $ nothing ! $ nothing ! $ owned ! usize (Is usize) (uint-makes 𝓤 H A W w64) n _ (refl, fits) $ fjoin ! $ move ! (1 ∷ 0 ∷ []) $ join ! $ done !
+
     -- over the book
     module _ (κ : Lft) (p : Share) (b o : ℕ) (γ : GName) (m : ℕ) (ws : List ℕ) where
       abbrev Given-book : SProp 𝓤
@@ -115,14 +123,6 @@ module _ {M : Type 1} (𝓤 : URA M) (H : Heap 𝓤) (A : Atoms 𝓤) (mem : Mem
       entry-from-pre i fits asked =
           qed W (‵ (flft κ p) ∷ ‵ (shr-own u32 (named 0) κ γ b o m ws) ∷ []) ∵ says ! asked $ nothing ! $ move ! (1 ∷ 0 ∷ []) $ join ! $ frame ! $
           nothing ! $ owned ! usize (Is usize) (uint-makes 𝓤 H A W w64) i _ (refl, fits) $ fjoin ! $ move ! (1 ∷ 0 ∷ []) $ fjoin ! $ done !
-
-      abbrev pub to-first-draw : ℕ → ℕ → FirstDraw .Ghost
-      to-first-draw n stop = (((κ, tt), (p, tt), tt, (slice b o γ ws, (n, (stop, tt))), (sliceVal (b, o) m ∷ [], (vint w64 n ∷ [], (vint w64 stop ∷ [], tt)))), tt)
-
-      pub first-draw-pre : (n stop : ℕ) → n < 2 ^ 64 → stop < 2 ^ 64 → (n ≤ 4096) × (stop ≤ length ws) → ent 𝓤 Given-book (FirstDraw .pre (to-first-draw n stop))
-      first-draw-pre n stop n-fits fits asked =
-          qed W (‵ (flft κ p) ∷ ‵ (shr-own u32 (named 0) κ γ b o m ws) ∷ []) ∵ says ! asked $ nothing ! $ move ! (1 ∷ 0 ∷ []) $ join ! $ frame ! $
-          nothing ! $ owned ! usize (Is usize) (uint-makes 𝓤 H A W w64) stop _ (refl, fits) $ fjoin ! $ owned ! usize (Is usize) (uint-makes 𝓤 H A W w64) n _ (refl, n-fits) $ fjoin ! $ move ! (1 ∷ 0 ∷ []) $ fjoin ! $ done !
 
       abbrev pub to-next-draw : ℕ → Cursor → NextDraw .Ghost
       to-next-draw stop c = (((κ, tt), (p, tt), tt, (slice b o γ ws, (stop, (c, tt))), (sliceVal (b, o) m ∷ [], (vint w64 stop ∷ [], (mach-cursor c ∷ [], tt)))), tt)
@@ -204,6 +204,14 @@ module _ {M : Type 1} {𝓤 : URA M} {H : Heap 𝓤} {A : Atoms 𝓤} {K : Type 
       (λ w. left 𝓤 H A W TA.the-row (Unit {0} × (Unit {0} × Unit {0})) (λ _. fsep ftrue (fsep ftrue ftrue)) (λ r. (r .number ≡ unfitFor e d) × (r .entry ≡ drawnDown e d)) w)
       os (λ w r is. regoal t after (told TA.the-type TA′.the-laws r w (is .0)) refl $ k r (known TA.the-type TA′.the-laws r w (is .0)) (is .1))
 
+  pub calls-cursor-behind : Call K W E xs (CursorBehind 𝓤 H A mem run) G after → (n : ℕ) → n < 2 ^ 64 → n ≤ 4096
+      → Opds K W (raw (CursorBehind 𝓤 H A mem run .pre (to-cursor-behind 𝓤 H A mem run W n)) ∷ Γ) E xs (vint w64 n ∷ [])
+      → (IsCursor (cursorBehind n) → Seq K W Γ (after (mach-cursor (cursorBehind n)))) → Seq K W Γ G
+  calls-cursor-behind cl n fits asked os k =
+      calls-plain {H = H} {A = A} {W = W} t (CursorBehind 𝓤 H A mem run) cl (to-cursor-behind 𝓤 H A mem run W n) (cursor-behind-pre 𝓤 H A mem run W n fits asked)
+      (λ r w. Is TC.the-row r (w ∷ []) × (r ≡ cursorBehind n)) (λ w. left 𝓤 H A W TC.the-row (Unit {0} × Unit {0}) (λ _. fsep ftrue ftrue) (λ r. r ≡ cursorBehind n) w)
+      os (λ w r is. regoal t after (told TC.the-type TC′.the-laws r w (is .0) ∙ ap mach-cursor (is .1)) refl $ k (subst IsCursor (is .1) (known TC.the-type TC′.the-laws r w (is .0))))
+
   -- ---- over the book
 
   pub calls-entry-from : Call K W E xs (EntryFrom 𝓤 H A mem run) G after → (ℓ : Lifetime) {κ : Lft} {p : Share} {γ : GName} {b o m : ℕ} (ws : List ℕ) (i : ℕ) → i < 2 ^ 64 → i ≤ 4096
@@ -215,16 +223,6 @@ module _ {M : Type 1} {𝓤 : URA M} {H : Heap 𝓤} {A : Atoms 𝓤} {K : Type 
       (λ r w. Is R r (w ∷ []) × (r ≡ entryOf (protectionAt ws (protectionPlace i))))
       (λ w. left-shared 𝓤 H A W R κ p (Lasts entry-from′.ended (κ, tt) (slice b o γ ws, (i, tt))) (λ _. fsep ftrue (fsep ftrue ftrue)) (λ r. r ≡ entryOf (protectionAt ws (protectionPlace i))) w)
       os (λ w r is. regoal t after (told TE.the-type TE′.the-laws r w (is .0) ∙ ap mach (is .1)) refl $ k (subst IsEntry (is .1) (known TE.the-type TE′.the-laws r w (is .0))))
-
-  pub calls-first-draw : Call K W E xs (FirstDraw 𝓤 H A mem run) G after → (ℓ : Lifetime) {κ : Lft} {p : Share} {γ : GName} {b o m : ℕ} (ws : List ℕ) (n stop : ℕ) → n < 2 ^ 64 → stop < 2 ^ 64 → (n ≤ 4096) × (stop ≤ length ws)
-      → Opds K W (raw (FirstDraw 𝓤 H A mem run .pre (to-first-draw 𝓤 H A mem run W κ p b o γ m ws n stop)) ∷ ‵ (shr-own u32 ℓ κ γ b o m ws) ∷ Γ) E xs (sliceVal (b, o) m ∷ vint w64 n ∷ vint w64 stop ∷ [])
-      → ((r : Found) → IsFound r → r ≡ nextDraw ws stop (cursorBehind n) → Seq K W (‵ (shr-own u32 ℓ κ γ b o m ws) ∷ ‵ (flft κ p) ∷ Γ) (after (mach-found r)))
-      → Seq K W (‵ (shr-own u32 ℓ κ γ b o m ws) ∷ ‵ (flft κ p) ∷ Γ) G
-  calls-first-draw cl ℓ {κ} {p} {γ} {b} {o} {m} ws n stop n-fits fits asked os k =
-      calls-passed {H = H} {A = A} {W = W} t (FirstDraw 𝓤 H A mem run) cl u32 ℓ ws (to-first-draw 𝓤 H A mem run W κ p b o γ m ws n stop) (first-draw-pre 𝓤 H A mem run W κ p b o γ m ws n stop n-fits fits asked)
-      (λ r w. Is TF.the-row r (w ∷ []) × (r ≡ nextDraw ws stop (cursorBehind n)))
-      (λ w. left-shared 𝓤 H A W TF.the-row κ p (Lasts first-draw′.ended (κ, tt) (slice b o γ ws, (n, (stop, tt)))) (λ _. fsep ftrue (fsep ftrue (fsep ftrue ftrue))) (λ r. r ≡ nextDraw ws stop (cursorBehind n)) w)
-      os (λ w r is. regoal t after (told TF.the-type TF′.the-laws r w (is .0)) refl $ k r (known TF.the-type TF′.the-laws r w (is .0)) (is .1))
 
   pub calls-next-draw : Call K W E xs (NextDraw 𝓤 H A mem run) G after → (ℓ : Lifetime) {κ : Lft} {p : Share} {γ : GName} {b o m : ℕ} (ws : List ℕ) (stop : ℕ) (c : Cursor) → stop < 2 ^ 64 → IsCursor c → stop ≤ length ws
       → Opds K W (raw (NextDraw 𝓤 H A mem run .pre (to-next-draw 𝓤 H A mem run W κ p b o γ m ws stop c)) ∷ ‵ (shr-own u32 ℓ κ γ b o m ws) ∷ Γ) E xs (sliceVal (b, o) m ∷ vint w64 stop ∷ mach-cursor c ∷ [])

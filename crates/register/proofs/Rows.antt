@@ -137,6 +137,9 @@ module _ {M : Type 1} (𝓤 : URA M) (H : Heap 𝓤) (A : Atoms 𝓤) where
     pub typed-draw : (d : Draw) → IsDraw d → Holds (hasTy TD′.mir (mach-draw d)) × WT (mach-draw d)
     typed-draw d g = LL.lawful TD.the-type TD′.the-laws 𝓤 H A W .typed d _ g .0
 
+    pub typed-cursor : (c : Cursor) → IsCursor c → Holds (hasTy TC′.mir (mach-cursor c)) × WT (mach-cursor c)
+    typed-cursor c g = LL.lawful TC.the-type TC′.the-laws 𝓤 H A W .typed c _ g .0
+
     pub typed-found : (f : Found) → IsFound f → Holds (hasTy TF′.mir (mach-found f)) × WT (mach-found f)
     typed-found f g = LL.lawful TF.the-type TF′.the-laws 𝓤 H A W .typed f _ g .0
 

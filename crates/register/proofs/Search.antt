@@ -85,7 +85,10 @@ scan-next ws stop (suc m) c h =
     by-tests false false rest = scan-either ws stop m r (opened ws c) (passed ws c) ∙ rest
 
 -- all draws from a cursor on
-pub all-draws : (ws : List ℕ) (stop : ℕ) (c : Cursor) → scanFrom ws stop (suc stop) c ≡ drawsFound ws stop (nextDraw ws stop c)
+abbrev pub drawsFrom : List ℕ → (stop : ℕ) → Cursor → List Draw
+drawsFrom ws stop c = scanFrom ws stop (suc stop) c
+
+pub all-draws : (ws : List ℕ) (stop : ℕ) (c : Cursor) → drawsFrom ws stop c ≡ drawsFound ws stop (nextDraw ws stop c)
 all-draws ws stop c = scan-next ws stop (suc stop) c (omega arith)
 
 -- the same at any bounds that are large enough

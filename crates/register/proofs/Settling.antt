@@ -14,10 +14,10 @@ use Rattle.rules.specs.declared.Draw.{Draw}
 use Rattle.rules.specs.declared.Entry.{Entry}
 use Rattle.rules.specs.Faults.{cause}
 use Rattle.rules.specs.Register.{blank, unfitFor, drawFault, drawn, unfit, settled, ifFit, settle}
+use Rattle.register.specs.declared.Cursor.{Cursor}
 use Rattle.register.specs.declared.covers.Found.{Found}
-use Rattle.register.specs.Scan.{scanFrom}
 use Rattle.register.specs.Draws.{nextDraw, drawsFound, drawnDown, faultIn, drawnIn}
-use Rattle.register.proofs.Search.{all-draws}
+use Rattle.register.proofs.Search.{drawsFrom, all-draws}
 
 -- ---- one draw
 
@@ -56,41 +56,40 @@ module _ (b : ℕ) (es rest : List Entry) (len : length es ≡ b) (d : Draw) whe
       by-place true e = drop-at es rest b len
       by-place false e = drop-set-lt b (es ++ rest) (d .protection) _ (leb-false b (d .protection) e) ∙ drop-at es rest b len
 
--- ---- the draws one after the other
+-- ---- the draws one after the other: f is what is found from the cursor c on
 
-module _ (ws : List ℕ) (stop : ℕ) (f : Found) where
-  found-draws : Holds (f .some) → drawsFound ws stop f ≡ f .draw ∷ drawsFound ws stop (nextDraw ws stop (f .cursor))
+module _ (ws : List ℕ) (stop : ℕ) (c : Cursor) (f : Found) (is : f ≡ nextDraw ws stop c) where
+  found-draws : Holds (f .some) → drawsFrom ws stop c ≡ f .draw ∷ drawsFrom ws stop (f .cursor)
   unfolding drawsFound
-  found-draws = by-some (f .some)
+  found-draws h = all-draws ws stop c ∙ ap (drawsFound ws stop) (sym is) ∙ by-some (f .some) h
     where
-      by-some : (p : Bool) → Holds p → cond p (f .draw ∷ scanFrom ws stop (suc stop) (f .cursor)) [] ≡ f .draw ∷ drawsFound ws stop (nextDraw ws stop (f .cursor))
-      by-some true h = ap (λ (ds : List Draw). f .draw ∷ ds) (all-draws ws stop (f .cursor))
+      by-some : (p : Bool) → Holds p → cond p (f .draw ∷ drawsFrom ws stop (f .cursor)) [] ≡ f .draw ∷ drawsFrom ws stop (f .cursor)
+      by-some true h = refl
       by-some false h = absurd h
 
-  no-draws : Holds (not (f .some)) → drawsFound ws stop f ≡ []
+  no-draws : Holds (not (f .some)) → drawsFrom ws stop c ≡ []
   unfolding drawsFound
-  no-draws = by-some (f .some)
+  no-draws h = all-draws ws stop c ∙ ap (drawsFound ws stop) (sym is) ∙ by-some (f .some) h
     where
-      by-some : (p : Bool) → Holds (not p) → cond p (f .draw ∷ scanFrom ws stop (suc stop) (f .cursor)) [] ≡ []
+      by-some : (p : Bool) → Holds (not p) → cond p (f .draw ∷ drawsFrom ws stop (f .cursor)) [] ≡ []
       by-some true h = absurd h
       by-some false h = refl
 
-  pub fewer : Holds (f .some) → length (drawsFound ws stop (nextDraw ws stop (f .cursor))) < length (drawsFound ws stop f)
+  pub fewer : Holds (f .some) → length (drawsFrom ws stop (f .cursor)) < length (drawsFrom ws stop c)
   fewer h = rw (found-draws h) (omega arith)
 
-  pub ends : (es : List Entry) → Holds (not (f .some)) → settle es (drawsFound ws stop f) ≡ settled es
+  pub ends : (es : List Entry) → Holds (not (f .some)) → settle es (drawsFrom ws stop c) ≡ settled es
   unfolding settle
   ends es h = rw (no-draws h) refl
 
-  pub refuses : (es : List Entry) (number : ℕ) → Holds (f .some) → number ≡ drawFault es (f .draw) → (number ≡ 0 → ⊥) → settle es (drawsFound ws stop f) ≡ unfit number (f .draw .at)
+  pub refuses : (es : List Entry) (number : ℕ) → Holds (f .some) → number ≡ drawFault es (f .draw) → (number ≡ 0 → ⊥) → settle es (drawsFrom ws stop c) ≡ unfit number (f .draw .at)
   unfolding settle
   refuses es number h e fault = rw (found-draws h, sym e) (by-number number fault)
     where
-      by-number : (n : ℕ) → (n ≡ 0 → ⊥) → ifFit n (f .draw .at) (settle (drawn es (f .draw)) (drawsFound ws stop (nextDraw ws stop (f .cursor)))) ≡ unfit n (f .draw .at)
+      by-number : (n : ℕ) → (n ≡ 0 → ⊥) → ifFit n (f .draw .at) (settle (drawn es (f .draw)) (drawsFrom ws stop (f .cursor))) ≡ unfit n (f .draw .at)
       by-number zero fault = absurd (fault refl)
       by-number (suc n) fault = refl
 
-  pub goes-on : (es : List Entry) → Holds (f .some) → drawFault es (f .draw) ≡ 0
-      → settle es (drawsFound ws stop f) ≡ settle (drawn es (f .draw)) (drawsFound ws stop (nextDraw ws stop (f .cursor)))
+  pub goes-on : (es : List Entry) → Holds (f .some) → drawFault es (f .draw) ≡ 0 → settle es (drawsFrom ws stop c) ≡ settle (drawn es (f .draw)) (drawsFrom ws stop (f .cursor))
   unfolding settle
   goes-on es h e = rw (found-draws h, e) refl

@@ -20,6 +20,20 @@ pub struct Found {
     pub cursor: Cursor,
 }
 
+// The first record behind b protections, before any written credit.
+pub fn cursor_behind(b: usize) -> Cursor
+    requires { ⌜ b ≤ 4096 ⌝ }
+    ensures { λ r. ⌜ r ≡ cursorBehind b ⌝ }
+{
+    Cursor {
+        at: 2 + 4 * b,
+        entity: 0,
+        rank: 0,
+        days: 0,
+        room: 0,
+    }
+}
+
 // The cover at the cursor.
 pub fn draw_at(book: &[u32], c: Cursor) -> Draw
     requires { ⌜ c .at < length (now book) ⌝ }
@@ -105,22 +119,4 @@ pub fn next_draw(book: &[u32], stop: usize, from: Cursor) -> Found
         },
         cursor: c,
     }
-}
-
-// The first cover behind b protections.
-pub fn first_draw(book: &[u32], b: usize, stop: usize) -> Found
-    requires { ⌜ (b ≤ 4096) × (stop ≤ length (now book)) ⌝ }
-    ensures { λ r. ⌜ r ≡ nextDraw (now (book .entry)) stop (cursorBehind b) ⌝ }
-{
-    next_draw(
-        book,
-        stop,
-        Cursor {
-            at: 2 + 4 * b,
-            entity: 0,
-            rank: 0,
-            days: 0,
-            room: 0,
-        },
-    )
 }

@@ -4,7 +4,7 @@ mod covers;
 mod entries;
 
 pub use crate::book::word_at;
-use crate::covers::first_draw;
+use crate::covers::cursor_behind;
 use crate::covers::next_draw;
 pub use crate::entries::clear;
 use crate::entries::draw;
@@ -38,8 +38,15 @@ pub fn settle(book: &[u32], register: &mut [Entry], b: usize, stop: usize) -> Se
         × (now (register .exit) ≡ registerOf b (now (register .entry)) (settling (now (book .entry)) b stop)) ⌝ }
 {
     load_all(book, register, b);
-    let mut found = first_draw(book, b, stop);
-    while found.some {
+    let mut cursor = cursor_behind(b);
+    loop {
+        let found = next_draw(book, stop, cursor);
+        if !found.some {
+            return Settlement {
+                number: 0,
+                place: 0,
+            };
+        }
         let number = draw(register, b, found.draw);
         if number != 0 {
             clear(register, b);
@@ -48,10 +55,6 @@ pub fn settle(book: &[u32], register: &mut [Entry], b: usize, stop: usize) -> Se
                 place: found.draw.at,
             };
         }
-        found = next_draw(book, stop, found.cursor);
-    }
-    Settlement {
-        number: 0,
-        place: 0,
+        cursor = found.cursor;
     }
 }

@@ -1,6 +1,6 @@
 -- `settle`, walked by hand: the book is passed on to the search, and the register is lent on to `load_all`, `draw` and `clear` and comes
--- back. The loop's state is what was found last and the entries so far, from which the rest of the draws settle as all of them do from
--- the start. Of the callees only the contracts are used. Assumes nothing.
+-- back. The loop's state is the cursor and the entries so far, from which the rest of the draws settle as all of them do from the
+-- start. Of the callees only the contracts are used. Assumes nothing.
 use mathlib.Core.Path.{_≡_, refl, sym, ap, subst, _∙_}
 use Prim.Native.Nat.{ℕ, _<_, _≤_, _^_}
 use native.Mathlib.Omega.{arith}
@@ -23,7 +23,7 @@ use contract.Running.{givenOf, tables, tablesOf}
 use contract.Lifetimes.{AllOutlive}
 use types.Kit as Kit
 use types.Kit.{Given, Item, Sq, anyQ, atRet, post, prop, runs, frees, ‵, _⊛_, ⋆, _$_, _∵_, !, qed, by, move, keep, split3, join, rewrite, fsplit, fjoin, suffices, frame, done}
-use types.Run.{Below, look, init, store, forget, stop, hop, fld, from, load, lit, of-opd, addr, bin, and-then, no-more, assigns, land, land-last, skips, branches, first, blocks, loops, again, exec, returns, returns-within, alloc1, alloc0, params1, pass1, pass0, free1, free0}
+use types.Run.{Below, look, init, store, forget, stop, hop, fld, from, load, lit, of-opd, addr, bin, un, and-then, no-more, assigns, assigns-last, land, skips, branches, first, blocks, loops, again, exec, returns-within, alloc1, alloc0, params1, pass1, pass0, free1, free0}
 use types.Part.{agg, whole, sub, look-in}
 use sound.WpLaws.{FmC, fmOf, WpFn-mono}
 use denote.RattleType.{owns}
@@ -43,26 +43,28 @@ use denote.Exit.{yes}
 use denote.Signature.{plain}
 use Rattle.rules.specs.declared.Entry.{Entry}
 use Rattle.rules.specs.Register.{blank, Settled, unfit, settled, drawFault, drawn, settle as settleOf}
+use Rattle.register.specs.declared.Cursor.{Cursor}
 use Rattle.register.specs.declared.Settlement.{Settlement}
 use Rattle.register.specs.declared.covers.Found.{Found}
 use Rattle.register.specs.Scan.{loadedFrom, cursorBehind}
-use Rattle.register.specs.Draws.{nextDraw, drawsFound, faultIn, drawnIn, settling, answerOf, registerOf}
+use Rattle.register.specs.Draws.{nextDraw, faultIn, drawnIn, settling, answerOf, registerOf}
 use Rattle.register.proofs.Settlement as TS
 use Rattle.register.proofs.Settlement.Laws as TS′
+use Rattle.register.proofs.Cursor.Laws as TC′
 use Rattle.register.proofs.covers.Found.Laws as TF′
-use Rattle.register.proofs.Rows.{R, mach-found, IsFound, mach-settlement, IsSettlement, is-settlement, its-draw, its-cursor, its-place, settlement-makes, typed-found, typed-settlement}
+use Rattle.register.proofs.Rows.{R, mach-cursor, IsCursor, mach-found, IsFound, mach-settlement, IsSettlement, is-settlement, its-draw, its-cursor, its-place, settlement-makes, typed-cursor, typed-found, typed-settlement}
 use Rattle.register.proofs.Relend.{slice}
-use Rattle.register.proofs.Lent.{tl, enters, mut-own, shr-own, mid, last, tests, less, less-wf}
+use Rattle.register.proofs.Lent.{tl, enters, mut-own, shr-own, mid, less, less-wf}
 use Rattle.register.proofs.Loaded.{loaded-length}
-use Rattle.register.proofs.Search.{all-draws}
+use Rattle.register.proofs.Search.{drawsFrom}
 use Rattle.register.proofs.Settling.{same-fault, same-entries, others-stay, fewer, ends, refuses, goes-on}
-use Rattle.register.proofs.Calls.{LoadAll, FirstDraw, NextDraw, DrawOne, Clear, calls-load-all, calls-first-draw, calls-next-draw, calls-draw, calls-clear}
+use Rattle.register.proofs.Calls.{LoadAll, CursorBehind, NextDraw, DrawOne, Clear, calls-load-all, calls-cursor-behind, calls-next-draw, calls-draw, calls-clear}
 use Rattle.register.proofs.entries.load_all.Symbol as load-all-def
 use Rattle.register.proofs.entries.load_all.Symbol.{name as #load-all}
 use Rattle.register.proofs.entries.load_all.Met as load-all-thm
-use Rattle.register.proofs.covers.first_draw.Symbol as first-def
-use Rattle.register.proofs.covers.first_draw.Symbol.{name as #first-draw}
-use Rattle.register.proofs.covers.first_draw.Met as first-thm
+use Rattle.register.proofs.covers.cursor_behind.Symbol as behind-def
+use Rattle.register.proofs.covers.cursor_behind.Symbol.{name as #cursor-behind}
+use Rattle.register.proofs.covers.cursor_behind.Met as behind-thm
 use Rattle.register.proofs.covers.next_draw.Symbol as next-def
 use Rattle.register.proofs.covers.next_draw.Symbol.{name as #next-draw}
 use Rattle.register.proofs.covers.next_draw.Met as next-thm
@@ -99,14 +101,17 @@ abbrev book-ty : Ty
 book-ty = sliceTy (tyRef (named 0) imm half)
 
 abbrev the-locals : List Local
-the-locals = local TS′.mir valueLocal ∷ local book-ty valueLocal ∷ local param valueLocal ∷ local word valueLocal ∷ local word valueLocal ∷ local TF′.mir valueLocal ∷ local half valueLocal ∷ local tyUnit valueLocal ∷ local ref valueLocal ∷ local (sliceTy ref) valueLocal ∷ local tyBool valueLocal ∷ local ref valueLocal ∷ local (sliceTy ref) valueLocal ∷ local tyUnit valueLocal ∷ local ref valueLocal ∷ local (sliceTy ref) valueLocal ∷ []
+the-locals = local TS′.mir valueLocal ∷ local book-ty valueLocal ∷ local param valueLocal ∷ local word valueLocal ∷ local word valueLocal ∷ local TC′.mir valueLocal ∷ local TF′.mir valueLocal ∷ local half valueLocal ∷ local tyUnit valueLocal ∷ local ref valueLocal ∷ local (sliceTy ref) valueLocal ∷ local tyBool valueLocal ∷ local ref valueLocal ∷ local (sliceTy ref) valueLocal ∷ local tyUnit valueLocal ∷ local ref valueLocal ∷ local (sliceTy ref) valueLocal ∷ []
 
 locals-are : code.function .locals ≡ the-locals
 locals-are = refl
 
--- what a turn does once the draw fits
+-- what a turn does once a draw is found, and once it fits
+abbrev draws : Body
+draws = tl (tl (tl code-mir.turn-1))
+
 abbrev goes-next : Body
-goes-next = tl (tl (tl (tl (tl (tl (tl code-mir.turn-1))))))
+goes-next = tl (tl (tl (tl (tl draws))))
 
 abbrev stayed : Stays (settle′.ended .signature .params) (settle′.ended .kept)
 stayed = (stay-none-slice (0 ∷ []) tt (plain (λ _. u32)) yes, (stay-slice (1 ∷ []) tt (plain (λ _. R)), (stay-none (λ _. usize) yes, (stay-none (λ _. usize) yes, tt))))
@@ -114,7 +119,7 @@ stayed = (stay-none-slice (0 ∷ []) tt (plain (λ _. u32)) yes, (stay-slice (1 
 -- the callees meet their contracts
 record Callees {M : Type 1} (𝓤 : URA M) (H : Heap 𝓤) (A : Atoms 𝓤) (mem : Memory → SProp 𝓤) (run : Routine → Fun 𝓤) (C : Calls 𝓤 H) : Type 2 where
   pub load-all : Triple 𝓤 (C #load-all) (LoadAll 𝓤 H A mem run)
-  pub first-draw : Triple 𝓤 (C #first-draw) (FirstDraw 𝓤 H A mem run)
+  pub cursor-behind : Triple 𝓤 (C #cursor-behind) (CursorBehind 𝓤 H A mem run)
   pub next-draw : Triple 𝓤 (C #next-draw) (NextDraw 𝓤 H A mem run)
   pub draw : Triple 𝓤 (C #draw) (DrawOne 𝓤 H A mem run)
   pub clear : Triple 𝓤 (C #clear) (Clear 𝓤 H A mem run)
@@ -169,43 +174,54 @@ module _ {M : Type 1} (𝓤 : URA M) (H : Heap 𝓤) (A : Atoms 𝓤) (W : Given
 
   -- the loop's state
   record At : Type 0 where
-    pub found : Found
+    pub cursor : Cursor
     pub es : List Entry
-    pub found-is : IsFound found
+    pub cursor-is : IsCursor cursor
     pub len : length es ≡ k
-    pub same : settleOf es (drawsFound ws until found) ≡ All
+    pub same : settleOf es (drawsFrom ws until cursor) ≡ All
 
   abbrev left : At → ℕ
-  left t = length (drawsFound ws until (t .found))
+  left t = length (drawsFrom ws until (t .cursor))
 
-  -- the number and the register of a turn's draw
-  abbrev number : At → ℕ
-  number t = faultIn k (with (t .es)) (t .found .draw)
+  -- a turn that finds f
+  module _ (t : At) (f : Found) (f-is : IsFound f) (e : f ≡ nextDraw ws until (t .cursor)) where
+    -- the number and the register of its draw
+    abbrev number : ℕ
+    number = faultIn k (with (t .es)) (f .draw)
 
-  abbrev after : At → List Entry
-  after t = drawnIn k (with (t .es)) (t .found .draw)
+    abbrev after : List Entry
+    after = drawnIn k (with (t .es)) (f .draw)
 
-  number-is : (t : At) → number t ≡ drawFault (t .es) (t .found .draw)
-  number-is t = same-fault k (t .es) (dropL k ys) (t .len) (t .found .draw)
+    number-is : number ≡ drawFault (t .es) (f .draw)
+    number-is = same-fault k (t .es) (dropL k ys) (t .len) (f .draw)
 
-  -- a draw that does not fit ends the pass
-  refused : (t : At) → Holds (t .found .some) → Holds (not (eqb (number t) 0))
-      → (record { number = number t; place = t .found .draw .at } ≡ answerOf All) × (replicate k blank ++ dropL k (after t) ≡ registerOf k ys All)
-  refused t h f =
-      let e : unfit (number t) (t .found .draw .at) ≡ All = sym (refuses ws until (t .found) (t .es) (number t) h (number-is t) (λ z. T-not (eqb (number t) 0) f (subst (λ (c : ℕ). Holds (eqb c 0)) (sym z) tt))) ∙ t .same in
-      (ap answerOf e, ap (λ (l : List Entry). replicate k blank ++ l) (others-stay k (t .es) (dropL k ys) (t .len) (t .found .draw)) ∙ ap (registerOf k ys) e)
+    place-fits : f .draw .at < 2 ^ 64
+    place-fits = its-place (f .draw) (its-draw f f-is)
 
-  -- one that fits leads to the next state
-  abbrev next : (t : At) → Holds (t .found .some) → number t ≡ 0 → (r : Found) → IsFound r → r ≡ nextDraw ws until (t .found .cursor) → At
-  next t h z r is e = record {
-    found = r;
-    es = drawn (t .es) (t .found .draw);
-    found-is = is;
-    len = length-set (t .es) _ _ ∙ t .len;
-    same = ap (λ (x : Found). settleOf (drawn (t .es) (t .found .draw)) (drawsFound ws until x)) e ∙ sym (goes-on ws until (t .found) (t .es) h (sym (number-is t) ∙ z)) ∙ t .same;
-  }
+    -- where there is no draw the pass ends
+    ended : Holds (not (f .some)) → (record { number = 0; place = 0 } ≡ answerOf All) × (with (t .es) ≡ registerOf k ys All)
+    ended h = let all : settled (t .es) ≡ All = sym (ends ws until (t .cursor) f e (t .es) h) ∙ t .same in (ap answerOf all, ap (registerOf k ys) all)
 
-  module _ (𝓣 : Tables 𝓤 H) (callees : Callees 𝓤 H A mem run (𝓣 .C)) (l₀ l₁ l₂ l₃ l₄ l₅ l₆ l₇ l₈ l₉ l₁₀ l₁₁ l₁₂ l₁₃ l₁₄ l₁₅ : ℕ) where
+    -- and where it does not fit
+    refused : Holds (f .some) → Holds (not (eqb number 0)) → (record { number = number; place = f .draw .at } ≡ answerOf All) × (replicate k blank ++ dropL k after ≡ registerOf k ys All)
+    refused h z =
+        let all : unfit number (f .draw .at) ≡ All = sym (refuses ws until (t .cursor) f e (t .es) number h number-is (λ n. T-not (eqb number 0) z (subst (λ (c : ℕ). Holds (eqb c 0)) (sym n) tt))) ∙ t .same in
+        (ap answerOf all, ap (λ (l : List Entry). replicate k blank ++ l) (others-stay k (t .es) (dropL k ys) (t .len) (f .draw)) ∙ ap (registerOf k ys) all)
+
+    fits : Holds (not (not (eqb number 0))) → number ≡ 0
+    fits z = eqb→eq number 0 (twice-not (eqb number 0) z)
+
+    -- where it fits the next state follows
+    abbrev next : Holds (f .some) → number ≡ 0 → At
+    next h z = record {
+      cursor = f .cursor;
+      es = drawn (t .es) (f .draw);
+      cursor-is = its-cursor f f-is;
+      len = length-set (t .es) _ _ ∙ t .len;
+      same = sym (goes-on ws until (t .cursor) f e (t .es) h (sym number-is ∙ z)) ∙ t .same;
+    }
+
+  module _ (𝓣 : Tables 𝓤 H) (callees : Callees 𝓤 H A mem run (𝓣 .C)) (l₀ l₁ l₂ l₃ l₄ l₅ l₆ l₇ l₈ l₉ l₁₀ l₁₁ l₁₂ l₁₃ l₁₄ l₁₅ l₁₆ : ℕ) where
     abbrev C : Calls 𝓤 H
     C = 𝓣 .C
 
@@ -216,11 +232,11 @@ module _ {M : Type 1} (𝓤 : URA M) (H : Heap 𝓤) (A : Atoms 𝓤) (W : Given
     fm = fmOf 𝓤 H (W .laws) 𝓣
 
     abbrev E : Env 𝓤 H
-    E = (TS′.mir, l₀) ∷ (book-ty, l₁) ∷ (param, l₂) ∷ (word, l₃) ∷ (word, l₄) ∷ (TF′.mir, l₅) ∷ (half, l₆) ∷ (tyUnit, l₇) ∷ (ref, l₈) ∷ ((sliceTy ref), l₉) ∷ (tyBool, l₁₀) ∷ (ref, l₁₁) ∷ ((sliceTy ref), l₁₂) ∷ (tyUnit, l₁₃) ∷ (ref, l₁₄) ∷ ((sliceTy ref), l₁₅) ∷ []
+    E = (TS′.mir, l₀) ∷ (book-ty, l₁) ∷ (param, l₂) ∷ (word, l₃) ∷ (word, l₄) ∷ (TC′.mir, l₅) ∷ (TF′.mir, l₆) ∷ (half, l₇) ∷ (tyUnit, l₈) ∷ (ref, l₉) ∷ ((sliceTy ref), l₁₀) ∷ (tyBool, l₁₁) ∷ (ref, l₁₂) ∷ ((sliceTy ref), l₁₃) ∷ (tyUnit, l₁₄) ∷ (ref, l₁₅) ∷ ((sliceTy ref), l₁₆) ∷ []
 
     -- the invariant: the two slices with their tokens, and the locals, the last first
     abbrev Inv : At → List (Item 𝓤)
-    Inv t = reg (with (t .es)) ∷ ‵ (flft κ₁ q₁) ∷ book ∷ ‵ (flft κ₀ q₀) ∷ ‵ (froom (sliceTy ref) l₁₅ 0) ∷ ‵ (fdies (sliceTy ref) l₁₅) ∷ ‵ (froom ref l₁₄ 0) ∷ ‵ (fdies ref l₁₄) ∷ ‵ (froom tyUnit l₁₃ 0) ∷ ‵ (fdies tyUnit l₁₃) ∷ ‵ (froom (sliceTy ref) l₁₂ 0) ∷ ‵ (fdies (sliceTy ref) l₁₂) ∷ ‵ (froom ref l₁₁ 0) ∷ ‵ (fdies ref l₁₁) ∷ ‵ (froom tyBool l₁₀ 0) ∷ ‵ (fdies tyBool l₁₀) ∷ ‵ (froom (sliceTy ref) l₉ 0) ∷ ‵ (fdies (sliceTy ref) l₉) ∷ ‵ (froom ref l₈ 0) ∷ ‵ (fdies ref l₈) ∷ ‵ (froom tyUnit l₇ 0) ∷ ‵ (fdies tyUnit l₇) ∷ ‵ (froom half l₆ 0) ∷ ‵ (fdies half l₆) ∷ ‵ (fat fullShare TF′.mir l₅ 0 (mach-found (t .found))) ∷ ‵ (fdies TF′.mir l₅) ∷ ‵ (fat fullShare word l₄ 0 (vint w64 until)) ∷ ‵ (fdies word l₄) ∷ ‵ (fat fullShare word l₃ 0 (vint w64 k)) ∷ ‵ (fdies word l₃) ∷ ‵ (fat fullShare param l₂ 0 s) ∷ ‵ (fdies param l₂) ∷ ‵ (fat fullShare book-ty l₁ 0 book-val) ∷ ‵ (fdies book-ty l₁) ∷ ‵ (froom TS′.mir l₀ 0) ∷ ‵ (fdies TS′.mir l₀) ∷ []
+    Inv t = reg (with (t .es)) ∷ ‵ (flft κ₁ q₁) ∷ book ∷ ‵ (flft κ₀ q₀) ∷ ‵ (froom (sliceTy ref) l₁₆ 0) ∷ ‵ (fdies (sliceTy ref) l₁₆) ∷ ‵ (froom ref l₁₅ 0) ∷ ‵ (fdies ref l₁₅) ∷ ‵ (froom tyUnit l₁₄ 0) ∷ ‵ (fdies tyUnit l₁₄) ∷ ‵ (froom (sliceTy ref) l₁₃ 0) ∷ ‵ (fdies (sliceTy ref) l₁₃) ∷ ‵ (froom ref l₁₂ 0) ∷ ‵ (fdies ref l₁₂) ∷ ‵ (froom tyBool l₁₁ 0) ∷ ‵ (fdies tyBool l₁₁) ∷ ‵ (froom (sliceTy ref) l₁₀ 0) ∷ ‵ (fdies (sliceTy ref) l₁₀) ∷ ‵ (froom ref l₉ 0) ∷ ‵ (fdies ref l₉) ∷ ‵ (froom tyUnit l₈ 0) ∷ ‵ (fdies tyUnit l₈) ∷ ‵ (froom half l₇ 0) ∷ ‵ (fdies half l₇) ∷ ‵ (froom TF′.mir l₆ 0) ∷ ‵ (fdies TF′.mir l₆) ∷ ‵ (fat fullShare TC′.mir l₅ 0 (mach-cursor (t .cursor))) ∷ ‵ (fdies TC′.mir l₅) ∷ ‵ (fat fullShare word l₄ 0 (vint w64 until)) ∷ ‵ (fdies word l₄) ∷ ‵ (fat fullShare word l₃ 0 (vint w64 k)) ∷ ‵ (fdies word l₃) ∷ ‵ (fat fullShare param l₂ 0 s) ∷ ‵ (fdies param l₂) ∷ ‵ (fat fullShare book-ty l₁ 0 book-val) ∷ ‵ (fdies book-ty l₁) ∷ ‵ (froom TS′.mir l₀ 0) ∷ ‵ (fdies TS′.mir l₀) ∷ []
 
     -- what is to hold where the loop is left, and where a turn ends
     abbrev Then : Kit.Post 𝓤 H
@@ -230,72 +246,59 @@ module _ {M : Type 1} (𝓤 : URA M) (H : Heap 𝓤) (A : Atoms 𝓤) (W : Given
     Turned t = anyQ (afterTurn 𝓤 H (Below 𝓤 H A (less left) Inv t) (post 𝓤 H Then))
 
     -- a return, from anywhere: the locals are freed
-    leaves : (r : Settlement) (zs : List Entry) (f : Found) → IsSettlement r → length zs ≡ n → (r ≡ answerOf All) × (zs ≡ registerOf k ys All)
-        → Sq W (reg zs ∷ ‵ (flft κ₁ q₁) ∷ book ∷ ‵ (flft κ₀ q₀) ∷ ‵ (froom (sliceTy ref) l₁₅ 0) ∷ ‵ (fdies (sliceTy ref) l₁₅) ∷ ‵ (froom ref l₁₄ 0) ∷ ‵ (fdies ref l₁₄) ∷ ‵ (froom tyUnit l₁₃ 0) ∷ ‵ (fdies tyUnit l₁₃) ∷ ‵ (froom (sliceTy ref) l₁₂ 0) ∷ ‵ (fdies (sliceTy ref) l₁₂) ∷ ‵ (froom ref l₁₁ 0) ∷ ‵ (fdies ref l₁₁) ∷ ‵ (froom tyBool l₁₀ 0) ∷ ‵ (fdies tyBool l₁₀) ∷ ‵ (froom (sliceTy ref) l₉ 0) ∷ ‵ (fdies (sliceTy ref) l₉) ∷ ‵ (froom ref l₈ 0) ∷ ‵ (fdies ref l₈) ∷ ‵ (froom tyUnit l₇ 0) ∷ ‵ (fdies tyUnit l₇) ∷ ‵ (froom half l₆ 0) ∷ ‵ (fdies half l₆) ∷ ‵ (fat fullShare TF′.mir l₅ 0 (mach-found f)) ∷ ‵ (fdies TF′.mir l₅) ∷ ‵ (fat fullShare word l₄ 0 (vint w64 until)) ∷ ‵ (fdies word l₄) ∷ ‵ (fat fullShare word l₃ 0 (vint w64 k)) ∷ ‵ (fdies word l₃) ∷ ‵ (fat fullShare param l₂ 0 s) ∷ ‵ (fdies param l₂) ∷ ‵ (fat fullShare book-ty l₁ 0 book-val) ∷ ‵ (fdies book-ty l₁) ∷ ‵ (fat fullShare TS′.mir l₀ 0 (mach-settlement r)) ∷ ‵ (fdies TS′.mir l₀) ∷ []) (frees E (prop (Post (mach-settlement r))))
-    leaves r zs f is len e =
-        forget ! 34 refl $ forget ! 32 refl $ forget ! 30 refl $ forget ! 28 refl $ forget ! 26 refl $ forget ! 24 refl $
-        move ! (34 ∷ 35 ∷ []) $ free1 ! $ move ! (32 ∷ 33 ∷ []) $ free1 ! $ move ! (30 ∷ 31 ∷ []) $ free1 ! $ move ! (28 ∷ 29 ∷ []) $ free1 ! $ move ! (26 ∷ 27 ∷ []) $ free1 ! $ move ! (24 ∷ 25 ∷ []) $ free1 ! $ move ! (22 ∷ 23 ∷ []) $ free1 ! $ move ! (20 ∷ 21 ∷ []) $ free1 ! $ move ! (18 ∷ 19 ∷ []) $ free1 ! $ move ! (16 ∷ 17 ∷ []) $ free1 ! $ move ! (14 ∷ 15 ∷ []) $ free1 ! $ move ! (12 ∷ 13 ∷ []) $ free1 ! $ move ! (10 ∷ 11 ∷ []) $ free1 ! $ move ! (8 ∷ 9 ∷ []) $ free1 ! $ move ! (6 ∷ 7 ∷ []) $ free1 ! $ move ! (4 ∷ 5 ∷ []) $ free1 ! $ free0 ! $ by ! (exits r zs is len e)
+    leaves : (r : Settlement) (zs : List Entry) (c : Cursor) (f : Found) → IsSettlement r → length zs ≡ n → (r ≡ answerOf All) × (zs ≡ registerOf k ys All)
+        → Sq W (reg zs ∷ ‵ (flft κ₁ q₁) ∷ book ∷ ‵ (flft κ₀ q₀) ∷ ‵ (froom (sliceTy ref) l₁₆ 0) ∷ ‵ (fdies (sliceTy ref) l₁₆) ∷ ‵ (froom ref l₁₅ 0) ∷ ‵ (fdies ref l₁₅) ∷ ‵ (froom tyUnit l₁₄ 0) ∷ ‵ (fdies tyUnit l₁₄) ∷ ‵ (froom (sliceTy ref) l₁₃ 0) ∷ ‵ (fdies (sliceTy ref) l₁₃) ∷ ‵ (froom ref l₁₂ 0) ∷ ‵ (fdies ref l₁₂) ∷ ‵ (froom tyBool l₁₁ 0) ∷ ‵ (fdies tyBool l₁₁) ∷ ‵ (froom (sliceTy ref) l₁₀ 0) ∷ ‵ (fdies (sliceTy ref) l₁₀) ∷ ‵ (froom ref l₉ 0) ∷ ‵ (fdies ref l₉) ∷ ‵ (froom tyUnit l₈ 0) ∷ ‵ (fdies tyUnit l₈) ∷ ‵ (froom half l₇ 0) ∷ ‵ (fdies half l₇) ∷ ‵ (fat fullShare TF′.mir l₆ 0 (mach-found f)) ∷ ‵ (fdies TF′.mir l₆) ∷ ‵ (fat fullShare TC′.mir l₅ 0 (mach-cursor c)) ∷ ‵ (fdies TC′.mir l₅) ∷ ‵ (fat fullShare word l₄ 0 (vint w64 until)) ∷ ‵ (fdies word l₄) ∷ ‵ (fat fullShare word l₃ 0 (vint w64 k)) ∷ ‵ (fdies word l₃) ∷ ‵ (fat fullShare param l₂ 0 s) ∷ ‵ (fdies param l₂) ∷ ‵ (fat fullShare book-ty l₁ 0 book-val) ∷ ‵ (fdies book-ty l₁) ∷ ‵ (fat fullShare TS′.mir l₀ 0 (mach-settlement r)) ∷ ‵ (fdies TS′.mir l₀) ∷ []) (frees E (prop (Post (mach-settlement r))))
+    leaves r zs c f is len e =
+        forget ! 36 refl $ forget ! 34 refl $ forget ! 32 refl $ forget ! 30 refl $ forget ! 28 refl $ forget ! 26 refl $ forget ! 24 refl $
+        move ! (36 ∷ 37 ∷ []) $ free1 ! $ move ! (34 ∷ 35 ∷ []) $ free1 ! $ move ! (32 ∷ 33 ∷ []) $ free1 ! $ move ! (30 ∷ 31 ∷ []) $ free1 ! $ move ! (28 ∷ 29 ∷ []) $ free1 ! $ move ! (26 ∷ 27 ∷ []) $ free1 ! $ move ! (24 ∷ 25 ∷ []) $ free1 ! $ move ! (22 ∷ 23 ∷ []) $ free1 ! $ move ! (20 ∷ 21 ∷ []) $ free1 ! $ move ! (18 ∷ 19 ∷ []) $ free1 ! $ move ! (16 ∷ 17 ∷ []) $ free1 ! $ move ! (14 ∷ 15 ∷ []) $ free1 ! $ move ! (12 ∷ 13 ∷ []) $ free1 ! $ move ! (10 ∷ 11 ∷ []) $ free1 ! $ move ! (8 ∷ 9 ∷ []) $ free1 ! $ move ! (6 ∷ 7 ∷ []) $ free1 ! $ move ! (4 ∷ 5 ∷ []) $ free1 ! $ free0 ! $ by ! (exits r zs is len e)
 
     turn : (t : At) → Sq W (Inv t) (runs C Λ E code-mir.turn-1 (Turned t))
     unfolding afterTurn
     turn t =
-        assigns ! (of-opd ! (load ! (from ! (fld ! refl (stop !))) (look-in ! 24 (sub ! 0 refl (whole !))))) (from ! (stop !)) (init ! 14 refl (tt, tt)) $
-        tests ! (load ! (from ! (stop !)) (look ! 14 refl))
+        -- the book is passed on to `next_draw`
+        move ! (2 ∷ 3 ∷ []) $ calls-next-draw ! mem run (mid ! fm (callees .next-draw)) (named 0) ws until (t .cursor) until-fits (t .cursor-is) (asked .1 .1) (and-then ! (load ! (from ! (stop !)) (look ! 34 refl)) (and-then ! (load ! (from ! (stop !)) (look ! 28 refl)) (and-then ! (load ! (from ! (stop !)) (look ! 26 refl)) (no-more !)))) (λ f f-is e. move ! (2 ∷ 3 ∷ []) $
+        land ! (from ! (stop !)) (init ! 24 refl (typed-found 𝓤 H A W f f-is)) $
+        assigns ! (un ! (load ! (from ! (fld ! refl (stop !))) (look-in ! 24 (sub ! 0 refl (whole !)))) tt) (from ! (stop !)) (init ! 14 refl (tt, tt)) $
+        first ! $ branches ! (load ! (from ! (stop !)) (look ! 14 refl))
+        (λ h.  -- no draw is left
+        assigns ! (agg ! (and-then ! (lit ! tt) (and-then ! (lit ! tt) (no-more !)))) (from ! (stop !)) (init ! 36 refl (typed-settlement 𝓤 H A W (record { number = 0; place = 0 }) (is-settlement 0 0 (lit< tt) (lit< tt)))) $
+        returns-within ! Post refl (look ! 36 refl) $ forget ! 14 refl $
+        leaves (record { number = 0; place = 0 }) (with (t .es)) (t .cursor) f (is-settlement 0 0 (lit< tt) (lit< tt)) (with-length (t .es) (t .len)) (ended t f f-is e h))
         (λ h.  -- the register is lent to `draw`
-        assigns ! (addr ! (from ! (fld ! refl (hop ! (look-in ! 30 (sub ! 0 refl (whole !))) (stop !))))) (from ! (stop !)) (init ! 12 refl (tt, tt)) $ assigns ! (agg ! (and-then ! (load ! (from ! (stop !)) (look ! 12 refl)) (and-then ! (load ! (from ! (fld ! refl (stop !))) (look-in ! 30 (sub ! 1 refl (whole !)))) (no-more !)))) (from ! (stop !)) (init ! 10 refl (tt, (tt, (record { fits = room .0 }, tt)))) $
-        calls-draw ! mem run (mid ! fm (callees .draw)) (named 1) (with (t .es)) (with-length (t .es) (t .len)) room k (t .found .draw) k-fits (its-draw (t .found) (t .found-is)) (k-within (with (t .es)) (with-length (t .es) (t .len))) (λ ν δ. and-then ! (load ! (from ! (stop !)) (look ! 10 refl)) (and-then ! (load ! (from ! (stop !)) (look ! 28 refl)) (and-then ! (load ! (from ! (fld ! refl (stop !))) (look-in ! 24 (sub ! 1 refl (whole !)))) (no-more !)))) (λ c-fits z-len.
+        skips ! $ exec ! C Λ E draws (Turned t) $
+        assigns ! (addr ! (from ! (fld ! refl (hop ! (look-in ! 32 (sub ! 0 refl (whole !))) (stop !))))) (from ! (stop !)) (init ! 12 refl (tt, tt)) $ assigns ! (agg ! (and-then ! (load ! (from ! (stop !)) (look ! 12 refl)) (and-then ! (load ! (from ! (fld ! refl (stop !))) (look-in ! 32 (sub ! 1 refl (whole !)))) (no-more !)))) (from ! (stop !)) (init ! 10 refl (tt, (tt, (record { fits = room .0 }, tt)))) $
+        calls-draw ! mem run (mid ! fm (callees .draw)) (named 1) (with (t .es)) (with-length (t .es) (t .len)) room k (f .draw) k-fits (its-draw f f-is) (k-within (with (t .es)) (with-length (t .es) (t .len))) (λ ν δ. and-then ! (load ! (from ! (stop !)) (look ! 10 refl)) (and-then ! (load ! (from ! (stop !)) (look ! 30 refl)) (and-then ! (load ! (from ! (fld ! refl (stop !))) (look-in ! 24 (sub ! 1 refl (whole !)))) (no-more !)))) (λ c-fits z-len.
         land ! (from ! (stop !)) (init ! 22 refl (tt, record { fits = c-fits })) $
         assigns ! (bin ! (load ! (from ! (stop !)) (look ! 22 refl)) (lit ! tt) tt) (from ! (stop !)) (store ! 14 refl (tt, tt)) $
         first ! $ branches ! (load ! (from ! (stop !)) (look ! 14 refl))
-        (λ f.  -- it does not fit: the register is lent to `clear`
-        assigns ! (addr ! (from ! (fld ! refl (hop ! (look-in ! 30 (sub ! 0 refl (whole !))) (stop !))))) (from ! (stop !)) (init ! 6 refl (tt, tt)) $ assigns ! (agg ! (and-then ! (load ! (from ! (stop !)) (look ! 6 refl)) (and-then ! (load ! (from ! (fld ! refl (stop !))) (look-in ! 30 (sub ! 1 refl (whole !)))) (no-more !)))) (from ! (stop !)) (init ! 4 refl (tt, (tt, (record { fits = room .0 }, tt)))) $
-        calls-clear ! mem run (mid ! fm (callees .clear)) (named 1) (after t) z-len room k k-fits (k-within (after t) z-len) (λ ν δ. and-then ! (load ! (from ! (stop !)) (look ! 4 refl)) (and-then ! (load ! (from ! (stop !)) (look ! 28 refl)) (no-more !))) (λ c-len.
+        (λ z.  -- it does not fit: the register is lent to `clear`
+        assigns ! (addr ! (from ! (fld ! refl (hop ! (look-in ! 32 (sub ! 0 refl (whole !))) (stop !))))) (from ! (stop !)) (init ! 6 refl (tt, tt)) $ assigns ! (agg ! (and-then ! (load ! (from ! (stop !)) (look ! 6 refl)) (and-then ! (load ! (from ! (fld ! refl (stop !))) (look-in ! 32 (sub ! 1 refl (whole !)))) (no-more !)))) (from ! (stop !)) (init ! 4 refl (tt, (tt, (record { fits = room .0 }, tt)))) $
+        calls-clear ! mem run (mid ! fm (callees .clear)) (named 1) (after t f f-is e) z-len room k k-fits (k-within (after t f f-is e) z-len) (λ ν δ. and-then ! (load ! (from ! (stop !)) (look ! 4 refl)) (and-then ! (load ! (from ! (stop !)) (look ! 30 refl)) (no-more !))) (λ c-len.
         land ! (from ! (stop !)) (init ! 8 refl (tt, tt)) $
-        assigns ! (agg ! (and-then ! (load ! (from ! (stop !)) (look ! 22 refl)) (and-then ! (load ! (from ! (fld ! refl (fld ! refl (stop !)))) (look-in ! 24 (sub ! 0 refl (sub ! 1 refl (whole !))))) (no-more !)))) (from ! (stop !)) (init ! 34 refl (typed-settlement 𝓤 H A W (record { number = number t; place = t .found .draw .at }) (is-settlement (number t) (t .found .draw .at) c-fits (place-fits t)))) $
-        returns-within ! Post refl (look ! 34 refl) $ forget ! 22 refl $ forget ! 14 refl $ forget ! 12 refl $ forget ! 10 refl $ forget ! 8 refl $ forget ! 6 refl $ forget ! 4 refl $
-        leaves (record { number = number t; place = t .found .draw .at }) (replicate k blank ++ dropL k (after t)) (t .found) (is-settlement (number t) (t .found .draw .at) c-fits (place-fits t)) c-len (refused t h f)))
-        (λ f. let z : number t ≡ 0 = eqb→eq (number t) 0 (twice-not (eqb (number t) 0) f) in
-        -- it fits: the book is passed on to `next_draw`
-        skips ! $ exec ! C Λ E goes-next (Turned t) $ rewrite ! 0 reg (same-entries k (t .es) (dropL k ys) (t .len) (t .found .draw) z) refl $
-        move ! (2 ∷ 3 ∷ []) $ calls-next-draw ! mem run (last ! fm (callees .next-draw)) (named 0) ws until (t .found .cursor) until-fits (its-cursor (t .found) (t .found-is)) (asked .1 .1) (and-then ! (load ! (from ! (stop !)) (look ! 32 refl)) (and-then ! (load ! (from ! (stop !)) (look ! 26 refl)) (and-then ! (load ! (from ! (fld ! refl (stop !))) (look-in ! 24 (sub ! 2 refl (whole !)))) (no-more !)))) (λ r r-is r-eq. move ! (2 ∷ 3 ∷ []) $
-        land-last ! (from ! (stop !)) (store ! 24 refl (typed-found 𝓤 H A W r r-is)) $
-        forget ! 22 refl $ forget ! 14 refl $ forget ! 12 refl $ forget ! 10 refl $ again ! (less left) Inv t (next t h z r r-is r-eq) (shorter t h r r-eq)))))
-        (λ h. exec ! C Λ E code-mir.t-6 (atRet E Post) $
-        assigns ! (agg ! (and-then ! (lit ! tt) (and-then ! (lit ! tt) (no-more !)))) (from ! (stop !)) (init ! 34 refl (typed-settlement 𝓤 H A W (record { number = 0; place = 0 }) (is-settlement 0 0 (lit< tt) (lit< tt)))) $
-        returns ! (look ! 34 refl) $ forget ! 14 refl $
-        leaves (record { number = 0; place = 0 }) (with (t .es)) (t .found) (is-settlement 0 0 (lit< tt) (lit< tt)) (with-length (t .es) (t .len)) (ended t h))
+        assigns ! (agg ! (and-then ! (load ! (from ! (stop !)) (look ! 22 refl)) (and-then ! (load ! (from ! (fld ! refl (fld ! refl (stop !)))) (look-in ! 24 (sub ! 0 refl (sub ! 1 refl (whole !))))) (no-more !)))) (from ! (stop !)) (init ! 36 refl (typed-settlement 𝓤 H A W (record { number = number t f f-is e; place = f .draw .at }) (is-settlement (number t f f-is e) (f .draw .at) c-fits (place-fits t f f-is e)))) $
+        returns-within ! Post refl (look ! 36 refl) $ forget ! 22 refl $ forget ! 14 refl $ forget ! 12 refl $ forget ! 10 refl $ forget ! 8 refl $ forget ! 6 refl $ forget ! 4 refl $
+        leaves (record { number = number t f f-is e; place = f .draw .at }) (replicate k blank ++ dropL k (after t f f-is e)) (t .cursor) f (is-settlement (number t f f-is e) (f .draw .at) c-fits (place-fits t f f-is e)) c-len (refused t f f-is e (twice-not (f .some) h) z)))
+        (λ z.  -- it fits
+        skips ! $ exec ! C Λ E goes-next (Turned t) $ rewrite ! 0 reg (same-entries k (t .es) (dropL k ys) (t .len) (f .draw) (fits t f f-is e z)) refl $
+        assigns-last ! (of-opd ! (load ! (from ! (fld ! refl (stop !))) (look-in ! 24 (sub ! 2 refl (whole !))))) (from ! (stop !)) (store ! 26 refl (typed-cursor 𝓤 H A W (f .cursor) (its-cursor f f-is))) $
+        forget ! 24 refl $ forget ! 22 refl $ forget ! 14 refl $ forget ! 12 refl $ forget ! 10 refl $ again ! (less left) Inv t (next t f f-is e (twice-not (f .some) h) (fits t f f-is e z)) (fewer ws until (t .cursor) f e (twice-not (f .some) h))))))
       where
         k-within : (zs : List Entry) → length zs ≡ n → k ≤ length zs
         k-within zs len = omega arith
 
-        place-fits : (t : At) → t .found .draw .at < 2 ^ 64
-        place-fits t = its-place (t .found .draw) (its-draw (t .found) (t .found-is))
-
-        shorter : (t : At) → Holds (t .found .some) → (r : Found) → r ≡ nextDraw ws until (t .found .cursor) → length (drawsFound ws until r) < left t
-        shorter t h r e = rw e (fewer ws until (t .found) h)
-
-        ended : (t : At) → Holds (not (t .found .some)) → (record { number = 0; place = 0 } ≡ answerOf All) × (with (t .es) ≡ registerOf k ys All)
-        ended t h = let e : settled (t .es) ≡ All = sym (ends ws until (t .found) (t .es) h) ∙ t .same in (ap answerOf e, ap (registerOf k ys) e)
-
     -- the body, once the parameters are stored
-    begins : Sq W (reg ys ∷ ‵ (flft κ₁ q₁) ∷ book ∷ ‵ (flft κ₀ q₀) ∷ ‵ (froom (sliceTy ref) l₁₅ 0) ∷ ‵ (fdies (sliceTy ref) l₁₅) ∷ ‵ (froom ref l₁₄ 0) ∷ ‵ (fdies ref l₁₄) ∷ ‵ (froom tyUnit l₁₃ 0) ∷ ‵ (fdies tyUnit l₁₃) ∷ ‵ (froom (sliceTy ref) l₁₂ 0) ∷ ‵ (fdies (sliceTy ref) l₁₂) ∷ ‵ (froom ref l₁₁ 0) ∷ ‵ (fdies ref l₁₁) ∷ ‵ (froom tyBool l₁₀ 0) ∷ ‵ (fdies tyBool l₁₀) ∷ ‵ (froom (sliceTy ref) l₉ 0) ∷ ‵ (fdies (sliceTy ref) l₉) ∷ ‵ (froom ref l₈ 0) ∷ ‵ (fdies ref l₈) ∷ ‵ (froom tyUnit l₇ 0) ∷ ‵ (fdies tyUnit l₇) ∷ ‵ (froom half l₆ 0) ∷ ‵ (fdies half l₆) ∷ ‵ (froom TF′.mir l₅ 0) ∷ ‵ (fdies TF′.mir l₅) ∷ ‵ (fat fullShare word l₄ 0 (vint w64 until)) ∷ ‵ (fdies word l₄) ∷ ‵ (fat fullShare word l₃ 0 (vint w64 k)) ∷ ‵ (fdies word l₃) ∷ ‵ (fat fullShare param l₂ 0 s) ∷ ‵ (fdies param l₂) ∷ ‵ (fat fullShare book-ty l₁ 0 book-val) ∷ ‵ (fdies book-ty l₁) ∷ ‵ (froom TS′.mir l₀ 0) ∷ ‵ (fdies TS′.mir l₀) ∷ []) (runs C Λ E code-mir.t-1 (atRet E Post))
+    begins : Sq W (reg ys ∷ ‵ (flft κ₁ q₁) ∷ book ∷ ‵ (flft κ₀ q₀) ∷ ‵ (froom (sliceTy ref) l₁₆ 0) ∷ ‵ (fdies (sliceTy ref) l₁₆) ∷ ‵ (froom ref l₁₅ 0) ∷ ‵ (fdies ref l₁₅) ∷ ‵ (froom tyUnit l₁₄ 0) ∷ ‵ (fdies tyUnit l₁₄) ∷ ‵ (froom (sliceTy ref) l₁₃ 0) ∷ ‵ (fdies (sliceTy ref) l₁₃) ∷ ‵ (froom ref l₁₂ 0) ∷ ‵ (fdies ref l₁₂) ∷ ‵ (froom tyBool l₁₁ 0) ∷ ‵ (fdies tyBool l₁₁) ∷ ‵ (froom (sliceTy ref) l₁₀ 0) ∷ ‵ (fdies (sliceTy ref) l₁₀) ∷ ‵ (froom ref l₉ 0) ∷ ‵ (fdies ref l₉) ∷ ‵ (froom tyUnit l₈ 0) ∷ ‵ (fdies tyUnit l₈) ∷ ‵ (froom half l₇ 0) ∷ ‵ (fdies half l₇) ∷ ‵ (froom TF′.mir l₆ 0) ∷ ‵ (fdies TF′.mir l₆) ∷ ‵ (froom TC′.mir l₅ 0) ∷ ‵ (fdies TC′.mir l₅) ∷ ‵ (fat fullShare word l₄ 0 (vint w64 until)) ∷ ‵ (fdies word l₄) ∷ ‵ (fat fullShare word l₃ 0 (vint w64 k)) ∷ ‵ (fdies word l₃) ∷ ‵ (fat fullShare param l₂ 0 s) ∷ ‵ (fdies param l₂) ∷ ‵ (fat fullShare book-ty l₁ 0 book-val) ∷ ‵ (fdies book-ty l₁) ∷ ‵ (froom TS′.mir l₀ 0) ∷ ‵ (fdies TS′.mir l₀) ∷ []) (runs C Λ E code-mir.t-1 (atRet E Post))
     begins =
-        assigns ! (addr ! (from ! (fld ! refl (hop ! (look-in ! 30 (sub ! 0 refl (whole !))) (stop !))))) (from ! (stop !)) (init ! 18 refl (tt, tt)) $ assigns ! (agg ! (and-then ! (load ! (from ! (stop !)) (look ! 18 refl)) (and-then ! (load ! (from ! (fld ! refl (stop !))) (look-in ! 30 (sub ! 1 refl (whole !)))) (no-more !)))) (from ! (stop !)) (init ! 16 refl (tt, (tt, (record { fits = room .0 }, tt)))) $
-        calls-load-all ! mem run (mid ! fm (callees .load-all)) (named 1) ys refl room (named 0) ws k k-fits (asked .0, asked .1 .0) (λ ν δ. and-then ! (load ! (from ! (stop !)) (look ! 31 refl)) (and-then ! (load ! (from ! (stop !)) (look ! 15 refl)) (and-then ! (load ! (from ! (stop !)) (look ! 27 refl)) (no-more !)))) (λ z-len.
+        assigns ! (addr ! (from ! (fld ! refl (hop ! (look-in ! 32 (sub ! 0 refl (whole !))) (stop !))))) (from ! (stop !)) (init ! 18 refl (tt, tt)) $ assigns ! (agg ! (and-then ! (load ! (from ! (stop !)) (look ! 18 refl)) (and-then ! (load ! (from ! (fld ! refl (stop !))) (look-in ! 32 (sub ! 1 refl (whole !)))) (no-more !)))) (from ! (stop !)) (init ! 16 refl (tt, (tt, (record { fits = room .0 }, tt)))) $
+        calls-load-all ! mem run (mid ! fm (callees .load-all)) (named 1) ys refl room (named 0) ws k k-fits (asked .0, asked .1 .0) (λ ν δ. and-then ! (load ! (from ! (stop !)) (look ! 33 refl)) (and-then ! (load ! (from ! (stop !)) (look ! 15 refl)) (and-then ! (load ! (from ! (stop !)) (look ! 29 refl)) (no-more !)))) (λ z-len.
         land ! (from ! (stop !)) (init ! 20 refl (tt, tt)) $
-        move ! (2 ∷ 3 ∷ []) $ calls-first-draw ! mem run (mid ! fm (callees .first-draw)) (named 0) ws k until k-fits until-fits (asked .0, asked .1 .1) (and-then ! (load ! (from ! (stop !)) (look ! 32 refl)) (and-then ! (load ! (from ! (stop !)) (look ! 28 refl)) (and-then ! (load ! (from ! (stop !)) (look ! 26 refl)) (no-more !)))) (λ r r-is r-eq. move ! (2 ∷ 3 ∷ []) $
-        land ! (from ! (stop !)) (init ! 24 refl (typed-found 𝓤 H A W r r-is)) $
+        calls-cursor-behind ! mem run (mid ! fm (callees .cursor-behind)) k k-fits (asked .0) (and-then ! (load ! (from ! (stop !)) (look ! 31 refl)) (no-more !)) (λ c-is.
+        land ! (from ! (stop !)) (init ! 26 refl (typed-cursor 𝓤 H A W (cursorBehind k) c-is)) $
         forget ! 20 refl $ forget ! 18 refl $ forget ! 16 refl $
-        first ! $ blocks ! $ loops ! 𝓣 (less left) (less-wf left) Inv turn (starts r r-is r-eq)))
+        first ! $ blocks ! $ loops ! 𝓣 (less left) (less-wf left) Inv turn (starts c-is)))
       where
-        starts : (r : Found) → IsFound r → r ≡ nextDraw ws until (cursorBehind k) → At
-        starts r is e = record {
-          found = r;
-          es = loadedFrom ws k 0;
-          found-is = is;
-          len = loaded-length ws k 0;
-          same = ap (settleOf (loadedFrom ws k 0)) (ap (drawsFound ws until) e ∙ sym (all-draws ws until (cursorBehind k)));
-        }
+        starts : IsCursor (cursorBehind k) → At
+        starts is = record { cursor = cursorBehind k; es = loadedFrom ws k 0; cursor-is = is; len = loaded-length ws k 0; same = refl }
 
   module _ (𝓣 : Tables 𝓤 H) (callees : Callees 𝓤 H A mem run (𝓣 .C)) where
     walk : ent 𝓤 (onEntry 𝓤 H A settle′.signature (κ₀, (κ₁, tt)) (q₀, (q₁, tt)) a vals) (WpFn 𝓤 H (𝓣 .C) (𝓣 .Λ) code.function (book-val ∷ s ∷ vint w64 k ∷ vint w64 until ∷ []) Post)
@@ -303,10 +306,10 @@ module _ {M : Type 1} (𝓤 : URA M) (H : Heap 𝓤) (A : Atoms 𝓤) (W : Given
         qed W ((‵ (flft κ₀ q₀) ⊛ ‵ (flft κ₁ q₁) ⊛ ‵ ftrue) ∷ ‵ (owns (ShrSlice (named 0) κ₀ u32 ∷ MutSlice (named 1) κ₁ R ∷ usize ∷ usize ∷ []) a vals) ∷ []) ∵
         -- what is held is put in order before the locals come
         split3 ! $ move ! (3 ∷ []) $ fsplit ! $ move ! (1 ∷ []) $ fsplit ! $ keep ! (0 ∷ 4 ∷ 2 ∷ 3 ∷ []) $ enters ! (𝓣 .C) (𝓣 .Λ) code.function (book-val ∷ s ∷ vint w64 k ∷ vint w64 until ∷ []) _ the-locals locals-are $
-        alloc1 ! (λ l₀. alloc1 ! (λ l₁. alloc1 ! (λ l₂. alloc1 ! (λ l₃. alloc1 ! (λ l₄. alloc1 ! (λ l₅. alloc1 ! (λ l₆. alloc1 ! (λ l₇. alloc1 ! (λ l₈. alloc1 ! (λ l₉. alloc1 ! (λ l₁₀. alloc1 ! (λ l₁₁. alloc1 ! (λ l₁₂. alloc1 ! (λ l₁₃. alloc1 ! (λ l₁₄. alloc1 ! (λ l₁₅. alloc0 ! $ params1 ! $
-        pass1 ! (init ! 28 refl (tt, (tt, (record { fits = book-room .0 }, tt)))) $ pass1 ! (init ! 26 refl (tt, (tt, (record { fits = room .0 }, tt)))) $
-        pass1 ! (init ! 24 refl (tt, record { fits = k-fits })) $ pass1 ! (init ! 22 refl (tt, record { fits = until-fits })) $ pass0 ! $ move ! (32 ∷ 33 ∷ 34 ∷ 35 ∷ []) $
-        by ! (begins 𝓣 callees l₀ l₁ l₂ l₃ l₄ l₅ l₆ l₇ l₈ l₉ l₁₀ l₁₁ l₁₂ l₁₃ l₁₄ l₁₅ .prf)))))))))))))))))
+        alloc1 ! (λ l₀. alloc1 ! (λ l₁. alloc1 ! (λ l₂. alloc1 ! (λ l₃. alloc1 ! (λ l₄. alloc1 ! (λ l₅. alloc1 ! (λ l₆. alloc1 ! (λ l₇. alloc1 ! (λ l₈. alloc1 ! (λ l₉. alloc1 ! (λ l₁₀. alloc1 ! (λ l₁₁. alloc1 ! (λ l₁₂. alloc1 ! (λ l₁₃. alloc1 ! (λ l₁₄. alloc1 ! (λ l₁₅. alloc1 ! (λ l₁₆. alloc0 ! $ params1 ! $
+        pass1 ! (init ! 30 refl (tt, (tt, (record { fits = book-room .0 }, tt)))) $ pass1 ! (init ! 28 refl (tt, (tt, (record { fits = room .0 }, tt)))) $
+        pass1 ! (init ! 26 refl (tt, record { fits = k-fits })) $ pass1 ! (init ! 24 refl (tt, record { fits = until-fits })) $ pass0 ! $ move ! (34 ∷ 35 ∷ 36 ∷ 37 ∷ []) $
+        by ! (begins 𝓣 callees l₀ l₁ l₂ l₃ l₄ l₅ l₆ l₇ l₈ l₉ l₁₀ l₁₁ l₁₂ l₁₃ l₁₄ l₁₅ l₁₆ .prf))))))))))))))))))
 
 module _ {M : Type 1} (𝓤 : URA M) (H : Heap 𝓤) (A : Atoms 𝓤) (W : Given 𝓤 H A) (mem : Memory → SProp 𝓤) (run : Routine → Fun 𝓤) (𝓣 : Tables 𝓤 H) (callees : Callees 𝓤 H A mem run (𝓣 .C)) where
   walks : Walks 𝓤 H A settle′.ended stayed (WpFn 𝓤 H (𝓣 .C) (𝓣 .Λ) code.function) (settle′.clauses 𝓤 H A mem run)
@@ -330,7 +333,7 @@ settle-spec 𝓤 H 𝓜 𝓖 𝓡 =
     (tables 𝓤 H 𝓜 𝓡 code.env .C) (tables 𝓤 H 𝓜 𝓡 code.env .Λ) #settle code.function (code.unfolded 𝓤 H 𝓜 𝓡)
     (meets 𝓤 H (𝓖 .A) (givenOf 𝓤 H 𝓜 𝓖) (𝓜 .mem) (𝓡 .run) (tablesOf 𝓤 H 𝓜 (tables 𝓤 H 𝓜 𝓡 code.env)) (record {
       load-all = cited 𝓤 H (LoadAll 𝓤 H (𝓖 .A) (𝓜 .mem) (𝓡 .run)) 𝓜 𝓡 code.env #load-all load-all-def.routine code.calls-register·entries·load-all (load-all-thm.met 𝓤 H 𝓜 𝓖 𝓡);
-      first-draw = cited 𝓤 H (FirstDraw 𝓤 H (𝓖 .A) (𝓜 .mem) (𝓡 .run)) 𝓜 𝓡 code.env #first-draw first-def.routine code.calls-register·covers·first-draw (first-thm.met 𝓤 H 𝓜 𝓖 𝓡);
+      cursor-behind = cited 𝓤 H (CursorBehind 𝓤 H (𝓖 .A) (𝓜 .mem) (𝓡 .run)) 𝓜 𝓡 code.env #cursor-behind behind-def.routine code.calls-register·covers·cursor-behind (behind-thm.met 𝓤 H 𝓜 𝓖 𝓡);
       next-draw = cited 𝓤 H (NextDraw 𝓤 H (𝓖 .A) (𝓜 .mem) (𝓡 .run)) 𝓜 𝓡 code.env #next-draw next-def.routine code.calls-register·covers·next-draw (next-thm.met 𝓤 H 𝓜 𝓖 𝓡);
       draw = cited 𝓤 H (DrawOne 𝓤 H (𝓖 .A) (𝓜 .mem) (𝓡 .run)) 𝓜 𝓡 code.env #draw draw-def.routine code.calls-register·entries·draw (draw-thm.met 𝓤 H 𝓜 𝓖 𝓡);
       clear = cited 𝓤 H (Clear 𝓤 H (𝓖 .A) (𝓜 .mem) (𝓡 .run)) 𝓜 𝓡 code.env #clear clear-def.routine code.calls-register·entries·clear (clear-thm.met 𝓤 H 𝓜 𝓖 𝓡);
