@@ -5,6 +5,8 @@ use rules::Bands;
 use rules::Sums;
 use words::amount::faulty_amount;
 use words::amount::size;
+use words::numbers::chosen;
+use words::numbers::wide;
 use words::parts::bit;
 use words::parts::payload;
 ghost use mathlib.Core.Path.{_≡_};
@@ -42,11 +44,11 @@ fn with_asset(mut s: Sums, w: u32, carrying: u32, provision: u32, deducted: u32)
     requires { ⌜ Roomy s × (sizeOf provision + sizeOf deducted ≤ sizeOf carrying) ⌝ }
     ensures { λ r. ⌜ r ≡ plusAsset s w carrying provision deducted ⌝ }
 {
-    if bit(w, 0) {
-        return s;
-    }
-    s.assets += 1000 * ((size(carrying) - size(provision)) as u64);
-    s.deducted += 1000 * (size(deducted) as u64);
+    let fiduciary = bit(w, 0);
+    let carried = 1000 * wide(size(carrying) - size(provision));
+    let less = 1000 * wide(size(deducted));
+    s.assets = s.assets + chosen(fiduciary, 0, carried);
+    s.deducted = s.deducted + chosen(fiduciary, 0, less);
     s
 }
 

@@ -1,81 +1,67 @@
-use native.Mathlib.Nat.{add-zero}
+-- What counts of an asset is chosen by its mark, as in the definition. Assumes nothing.
 use Rattle.records.specs.Step.{plusAsset}
 use borrow.Author.Needs.{needs}
 use Rattle.records.proofs.assets.with_asset.Statement.{statement}
 use Rattle.records.proofs.assets.with_asset.Tie as tie
-use Rattle.records.proofs.assets.with_asset.Reads as reads
-use Rattle.records.proofs.assets.with_asset.Lts as lts
-use Rattle.words.proofs.amount.size.Reads as size-reads
-use Rattle.words.proofs.parts.bit.Reads as bit-reads
 
--- src/assets.rt:45:8
 bit-requires : tie.Need-bit-requires
 bit-requires c κs = search needs
 
--- src/assets.rt:46:9
-returns : tie.Need-returns
-unfolding plusAsset
-returns c = simp (← (c .before .bit .ensures), (c .if1 .taken), add-zero)
-
--- src/assets.rt:48:26
 size-requires : tie.Need-size-requires
 size-requires c κs = search needs
 
--- src/assets.rt:48:43
 size-requires-2 : tie.Need-size-requires-2
 size-requires-2 c κs = search needs
 
--- src/assets.rt:48:26
-sub-s : tie.Need-sub-s
-sub-s c = search needs
+sub-wide : tie.Need-sub-wide
+sub-wide c = search needs
 
--- src/assets.rt:48:25
-cast-s : tie.Need-cast-s
-cast-s c = search needs
+wide-requires : tie.Need-wide-requires
+wide-requires c κs = search needs
 
--- src/assets.rt:48:17
-mul-s : tie.Need-mul-s
-mul-s c = search needs
+mul-carried : tie.Need-mul-carried
+mul-carried c = search needs
 
--- src/assets.rt:48:5
-add-s : tie.Need-add-s
-add-s c = search needs
-
--- src/assets.rt:49:27
 size-requires-3 : tie.Need-size-requires-3
 size-requires-3 c κs = search needs
 
--- src/assets.rt:49:27
-cast-s-2 : tie.Need-cast-s-2
-cast-s-2 c = search needs
+wide-requires-2 : tie.Need-wide-requires-2
+wide-requires-2 c κs = search needs
 
--- src/assets.rt:49:19
-mul-s-2 : tie.Need-mul-s-2
-mul-s-2 c = search needs
+mul-less : tie.Need-mul-less
+mul-less c = search needs
 
--- src/assets.rt:49:5
+chosen-requires : tie.Need-chosen-requires
+chosen-requires c κs = search needs
+
+add-s : tie.Need-add-s
+add-s c = search needs
+
+chosen-requires-2 : tie.Need-chosen-requires-2
+chosen-requires-2 c κs = search needs
+
 add-s-2 : tie.Need-add-s-2
 add-s-2 c = search needs
 
--- src/assets.rt:41:1
-returns-2 : tie.Need-returns-2
+returns : tie.Need-returns
 unfolding plusAsset
-returns-2 c = simp (← (c .before .before .before .before .before .before .bit .ensures), (c .before .before .before .before .before .if1 .left), ← (c .before .before .before .before .size .ensures), ← (c .before .before .before .size2 .ensures), ← (c .before .size3 .ensures))
+returns c = simp ((c .before .before .before .chosen .ensures .0), (c .before .chosen2 .ensures .0), (c .before .before .before .before .before .before .before .before .before .bit .ensures), (c .before .before .before .before .before .before .wide .ensures), (c .before .before .before .before .before .before .before .before .size .ensures), (c .before .before .before .before .before .before .before .size2 .ensures), (c .before .before .before .before .wide2 .ensures), (c .before .before .before .before .before .size3 .ensures))
 
 pub with-asset-spec : {M : Type 1} → statement M
 with-asset-spec =
     tie.close
     (tie.spec
     bit-requires
-    returns
     size-requires
     size-requires-2
-    sub-s
-    cast-s
-    mul-s
-    add-s
+    sub-wide
+    wide-requires
+    mul-carried
     size-requires-3
-    cast-s-2
-    mul-s-2
+    wide-requires-2
+    mul-less
+    chosen-requires
+    add-s
+    chosen-requires-2
     add-s-2
-    returns-2)
+    returns)
