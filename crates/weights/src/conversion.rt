@@ -1,5 +1,8 @@
 // The conversion figures of off-balance items (document 01, "Factors").
+ghost use mathlib.Core.Bool.{cond};
 ghost use mathlib.Core.Path.{_≡_};
+ghost use Prim.Native.Nat.{_-_};
+ghost use lib.Dec.{eqb};
 ghost use Rattle.rules.specs.Factors.{conversionAt, conversionOf};
 
 // commitment to one year, longer, cancellable, credit substitute, forward purchase, transaction contingency, note facility,
@@ -23,15 +26,26 @@ fn figure(x: u16) -> u32
     x as u32
 }
 
+fn one_if(b: bool) -> u32
+    ensures { λ r. ⌜ r ≡ cond b 1 0 ⌝ }
+{
+    b as u32
+}
+
+// The class of the item committed to, or the item's own where there is none: by counting, so that no branch hangs on it.
+fn second_class(class: u32, committed: u32) -> u32
+    ensures { λ r. ⌜ r ≡ cond (eqb committed 0) class (committed - 1) ⌝ }
+{
+    let none = one_if(committed == 0);
+    committed + none - 1 + none * class
+}
+
 // "With bits 4-7 the lower of two applies": `committed` is 0, or one more than the class of the item committed to.
 pub fn conversion(class: u32, committed: u32) -> u32
     ensures { λ r. ⌜ r ≡ conversionOf class committed ⌝ }
 {
     let own = conversion_at(class);
-    if committed == 0 {
-        return own;
-    }
-    let other = conversion_at(committed - 1);
+    let other = conversion_at(second_class(class, committed));
     if own <= other {
         return own;
     }
