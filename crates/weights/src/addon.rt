@@ -1,5 +1,5 @@
 // The weighted add-on of a set (document 01, "Weighing a set").
-use crate::share::share;
+use crate::share::share_of;
 use words::numbers::less;
 ghost use mathlib.Core.Path.{_≡_};
 ghost use Prim.Native.Nat.{_-_, _^_, _<_};
@@ -15,7 +15,7 @@ pub fn weighted(x: u64, gross: u64, losses: u64) -> u64
         return x;
     }
     let net = less(gross, losses);
-    let s = share(x, 2 * gross + 3 * net, 5 * gross);
+    let s = share_of(x, 2 * gross + 3 * net, 5 * gross);
     if s.remainder == 0 {
         return s.quotient;
     }

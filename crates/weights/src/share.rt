@@ -9,22 +9,41 @@ pub struct Parts {
     pub remainder: u64,
 }
 
-// Halves until the product fits 64 bits. One step has no branch: the part of an odd x is counted 0 or 1 times.
-pub fn share(x: u64, p: u64, q: u64) -> Parts
+// The share of a number: at once where the product fits 64 bits, as it does for most sets, else by halves. A function of its own,
+// since the compiler puts none that calls itself into its callers.
+pub fn share_of(x: u64, p: u64, q: u64) -> Parts
     requires { ⌜ (p ≤ q) × ((0 < q) × (q < 2 ^ 62)) ⌝ }
     ensures { λ r. ⌜ (r .quotient ≡ x * p / q) × (r .remainder ≡ x * p % q) ⌝ }
 {
     if x <= 0xffffffffffffffff / q {
-        let product = x * p;
-        return Parts {
-            quotient: product / q,
-            remainder: product % q,
-        };
+        return at_once(x, p, q);
+    }
+    share(x, p, q)
+}
+
+// Halves until the product fits. One step has no branch: the part of an odd x is counted 0 or 1 times.
+fn share(x: u64, p: u64, q: u64) -> Parts
+    requires { ⌜ (p ≤ q) × ((0 < q) × (q < 2 ^ 62)) ⌝ }
+    ensures { λ r. ⌜ (r .quotient ≡ x * p / q) × (r .remainder ≡ x * p % q) ⌝ }
+{
+    if x <= 0xffffffffffffffff / q {
+        return at_once(x, p, q);
     }
     let half = share(x / 2, p, q);
     let carried = 2 * half.remainder + x % 2 * p;
     Parts {
         quotient: 2 * half.quotient + carried / q,
         remainder: carried % q,
+    }
+}
+
+fn at_once(x: u64, p: u64, q: u64) -> Parts
+    requires { ⌜ (0 < q) × (x * p < 2 ^ 64) ⌝ }
+    ensures { λ r. ⌜ (r .quotient ≡ x * p / q) × (r .remainder ≡ x * p % q) ⌝ }
+{
+    let product = x * p;
+    Parts {
+        quotient: product / q,
+        remainder: product % q,
     }
 }

@@ -16,20 +16,20 @@ returns c =
 less-requires : tie.Need-less-requires
 less-requires c κs = search needs
 
-mul-share : tie.Need-mul-share
-mul-share c = search needs
+mul-share-of : tie.Need-mul-share-of
+mul-share-of c = search needs
 
-mul-share-2 : tie.Need-mul-share-2
-mul-share-2 c = search needs
+mul-share-of-2 : tie.Need-mul-share-of-2
+mul-share-of-2 c = search needs
 
-add-share : tie.Need-add-share
-add-share c = search needs
+add-share-of : tie.Need-add-share-of
+add-share-of c = search needs
 
-mul-share-3 : tie.Need-mul-share-3
-mul-share-3 c = search needs
+mul-share-of-3 : tie.Need-mul-share-of-3
+mul-share-of-3 c = search needs
 
-share-requires : tie.Need-share-requires
-share-requires c κs = search needs
+share-of-requires : tie.Need-share-of-requires
+share-of-requires c κs = search needs
 
 returns-2 : tie.Need-returns-2
 returns-2 c =
@@ -58,11 +58,11 @@ weighted-spec =
     (tie.spec
     returns
     less-requires
-    mul-share
-    mul-share-2
-    add-share
-    mul-share-3
-    share-requires
+    mul-share-of
+    mul-share-of-2
+    add-share-of
+    mul-share-of-3
+    share-of-requires
     returns-2
     add-result
     returns-3)
