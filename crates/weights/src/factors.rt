@@ -1,5 +1,6 @@
 // The add-on factors of trades, per thousand of the notional (document 01, "Factors").
 use rules::Bands;
+use words::numbers::from_byte;
 ghost use mathlib.Core.Bool.{cond, _&&_};
 ghost use mathlib.Core.Path.{_≡_};
 ghost use Prim.Native.Nat.{max};
@@ -39,13 +40,7 @@ pub fn factor_at(class: u32, band: usize) -> u32
     if band >= 3 {
         return 0;
     }
-    figure(FACTORS[row][band])
-}
-
-fn figure(x: u8) -> u32
-    ensures { λ r. ⌜ r ≡ x ⌝ }
-{
-    x as u32
+    from_byte(FACTORS[row][band])
 }
 
 // "Credit: 50 qualifying, 100 not"

@@ -1,9 +1,10 @@
 // A word's kind, payload, single bits and fields; and how many amounts its kind has.
+use crate::numbers::from_byte;
 ghost use mathlib.Core.Path.{_≡_};
 ghost use Rattle.rules.specs.Word.{amountsIn, bitOf, fieldOf, kindOf, payloadOf};
 
 // How many amounts follow a word of each kind. Sixteen figures, so that every kind of four bits has one.
-const AMOUNTS: [u32; 16] = [0, 1, 3, 3, 3, 4, 5, 1, 0, 7, 1, 0, 0, 0, 0, 0];
+const AMOUNTS: [u8; 16] = [0, 1, 3, 3, 3, 4, 5, 1, 0, 7, 1, 0, 0, 0, 0, 0];
 
 pub fn kind(w: u32) -> u32
     ensures { λ r. ⌜ r ≡ kindOf w ⌝ }
@@ -45,5 +46,5 @@ pub fn amounts(w: u32) -> u32
     ensures { λ r. ⌜ r ≡ amountsIn w ⌝ }
 {
     let place = (w >> 28) as usize;
-    AMOUNTS[place]
+    from_byte(AMOUNTS[place])
 }

@@ -16,22 +16,22 @@ returns-2 c =
     let a = c .before .before .args in
     sym (no-band (a .class) (a .band) (omega arith))
 
-mul-figure : tie.Need-mul-figure
-mul-figure c = search needs
+mul-from-byte : tie.Need-mul-from-byte
+mul-from-byte c = search needs
 
-index-1-figure : tie.Need-index-1-figure
-index-1-figure c = search needs
+index-1-from-byte : tie.Need-index-1-from-byte
+index-1-from-byte c = search needs
 
-index-2-figure : tie.Need-index-2-figure
-index-2-figure c = search needs
+index-2-from-byte : tie.Need-index-2-from-byte
+index-2-from-byte c = search needs
 
-figure-requires : tie.Need-figure-requires
-figure-requires c κs = search needs
+from-byte-requires : tie.Need-from-byte-requires
+from-byte-requires c κs = search needs
 
 returns-3 : tie.Need-returns-3
-returns-3 c = c .figure .ensures
+returns-3 c = c .from-byte .ensures
 
 pub factor-at-spec : {M : Type 1} → statement M
 factor-at-spec =
     tie.close
-    (tie.spec returns returns-2 mul-figure index-1-figure index-2-figure figure-requires returns-3)
+    (tie.spec returns returns-2 mul-from-byte index-1-from-byte index-2-from-byte from-byte-requires returns-3)
