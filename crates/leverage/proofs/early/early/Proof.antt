@@ -1,5 +1,8 @@
 use borrow.Author.Tests.{lt-ltb, le-ltb}
 use Rattle.leverage.specs.Answers.{earlyNumber}
+use Prim.Native.Nat.{_^_}
+use native.Mathlib.Omega.{arith}
+use lib.ListN.{length}
 use borrow.Author.Needs.{needs}
 use Rattle.leverage.proofs.early.early.Statement.{statement}
 use Rattle.leverage.proofs.early.early.Tie as tie
@@ -11,7 +14,7 @@ use Rattle.reading.proofs.head.head_faulty.Reads as head-faulty-reads
 -- src/early.rt:26:9
 returns : tie.Need-returns
 unfolding earlyNumber
-returns c = simp (lt-ltb _ _ (c .if1 .taken))
+returns c = simp (lt-ltb (2 ^ 20) (length (c .before .before .args .book .now)) (omega arith))
 
 -- src/early.rt:28:8
 head-faulty-requires : tie.Need-head-faulty-requires
