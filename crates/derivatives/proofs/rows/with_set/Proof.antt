@@ -1,10 +1,27 @@
-use Rattle.derivatives.proofs.SetRows.{marked-under, replaced-under, weighted-under, weighted-less, replaced-is, weighted-is, with-set-is}
+-- What a set puts into the sums, piece by piece. Assumes nothing.
 use mathlib.Core.Path.{_∙_}
-use Prim.Native.Nat.{_+_, _*_}
+use Prim.Native.Nat.{_+_, _-_, _*_, _≤_}
 use native.Mathlib.Omega.{arith}
 use borrow.Author.Needs.{needs}
+use Rattle.derivatives.proofs.SetRows.{marked-under, replaced-under, weighted-under, weighted-less, replaced-is, weighted-is, with-set-is}
 use Rattle.derivatives.proofs.rows.with_set.Statement.{statement}
 use Rattle.derivatives.proofs.rows.with_set.Tie as tie
+
+-- ---- once replacement and both add-ons are known
+
+abbrev entry : tie.After-weighted-rest → tie.Start
+entry k = k .before .before .before .before .before .before .before .before .before
+
+replaced-small : (k : tie.After-weighted-rest) → k .before .before .replacement .result ≤ entry k .args .t .gains
+replaced-small k = replaced-under _ _ _ _ (k .before .before .replacement .ensures)
+
+gross-small : (k : tie.After-weighted-rest) → k .before .weighted-in .result ≤ entry k .args .t .gross
+gross-small k = weighted-under _ _ _ _ _ (k .before .weighted-in .ensures)
+
+rest-small : (k : tie.After-weighted-rest) → k .weighted-rest .result ≤ entry k .args .t .gross - entry k .args .t .uncovered
+rest-small k = weighted-under _ _ _ _ _ (k .weighted-rest .ensures)
+
+-- ---- the needs
 
 bit-requires : tie.Need-bit-requires
 bit-requires c κs = search needs
@@ -22,13 +39,15 @@ marked-requires : tie.Need-marked-requires
 marked-requires c κs = search needs
 
 add-with-margin : tie.Need-add-with-margin
-add-with-margin c = omega (arith, (c .before .before .before .before .before .before .pre .1 .losses), marked-under (c .before .before .before .before .margin-counts .result) (c .before .before .wide .result) _ (c .before .marked .ensures), (c .before .before .wide .ensures), (c .before .before .before .size .ensures))
+add-with-margin c =
+    omega (arith, c .before .before .before .before .before .before .pre .1 .losses, c .before .before .wide .ensures, c .before .before .before .size .ensures,
+    marked-under (c .before .before .before .before .margin-counts .result) (c .before .before .wide .result) _ (c .before .marked .ensures))
 
 replacement-requires : tie.Need-replacement-requires
 replacement-requires c κs = search needs
 
 mul-replaced : tie.Need-mul-replaced
-mul-replaced c = omega (arith, (c .before .before .before .before .before .before .before .pre .1 .weight), replaced-under _ _ _ _ (c .replacement .ensures))
+mul-replaced c = omega (arith, c .before .before .before .before .before .before .before .pre .1 .weight, replaced-under _ _ _ _ (c .replacement .ensures))
 
 weighted-in-requires : tie.Need-weighted-in-requires
 weighted-in-requires c κs = search needs
@@ -49,10 +68,14 @@ add-s : tie.Need-add-s
 add-s c = search needs
 
 add-s-2 : tie.Need-add-s-2
-add-s-2 c = let p = c .before .before .before .before .before .before .before .before .before .before .before .before .before .pre in omega (arith, (p .0 .replacement), (p .1 .weight), replaced-under _ _ _ _ (c .before .before .before .before .before .before .replacement .ensures))
+add-s-2 c =
+    let k = c .before .before .before .before in
+    omega (arith, entry k .pre .0 .replacement, entry k .pre .1 .weight, replaced-small k)
 
 add-s-3 : tie.Need-add-s-3
-add-s-3 c = let p = c .before .before .before .before .before .before .before .before .before .before .before .before .before .before .pre in omega (arith, (p .0 .weighted), (p .1 .weight), weighted-under _ _ _ _ _ (c .before .before .before .before .before .before .weighted-in .ensures))
+add-s-3 c =
+    let k = c .before .before .before .before .before in
+    omega (arith, entry k .pre .0 .weighted, entry k .pre .1 .weight, gross-small k)
 
 size-requires-3 : tie.Need-size-requires-3
 size-requires-3 c κs = search needs
@@ -64,46 +87,78 @@ mul-s : tie.Need-mul-s
 mul-s c = search needs
 
 add-s-4 : tie.Need-add-s-4
-add-s-4 c = omega (arith, (c .before .before .before .before .before .before .before .before .before .before .before .before .before .before .before .before .before .pre .0 .posted), (c .before .wide3 .ensures), (c .before .before .size3 .ensures))
+add-s-4 c =
+    let k = c .before .before .before .before .before .before .before .before in
+    omega (arith, entry k .pre .0 .posted, c .before .wide3 .ensures, c .before .before .size3 .ensures)
 
 marked-requires-2 : tie.Need-marked-requires-2
 marked-requires-2 c κs = search needs
 
 add-s-5 : tie.Need-add-s-5
-add-s-5 c = omega (arith, (c .before .before .before .before .before .before .before .before .before .before .before .before .before .before .before .before .before .before .before .pre .0 .offset), marked-under (c .before .before .before .before .before .before .before .before .before .before .before .before .before .before .before .before .before .margin-counts .result) (1000 * (c .before .before .before .before .before .before .before .before .wide2 .result)) _ (c .before .marked2 .ensures), (c .before .before .before .before .before .before .before .before .wide2 .ensures), (c .before .before .before .before .before .before .before .before .before .size2 .ensures))
+add-s-5 c =
+    let k = c .before .before .before .before .before .before .before .before .before .before in
+    let paid = c .before .before .before .before .before .before .before .before .wide2 in
+    omega (arith, entry k .pre .0 .offset, paid .ensures, c .before .before .before .before .before .before .before .before .before .size2 .ensures,
+    marked-under (k .before .before .before .before .before .before .before .margin-counts .result) (1000 * paid .result) _ (c .before .marked2 .ensures))
 
 bit-requires-2 : tie.Need-bit-requires-2
 bit-requires-2 c κs = search needs
 
 add-marked : tie.Need-add-marked
-add-marked c = omega (arith, (c .before .before .before .before .before .before .before .before .before .before .before .before .before .before .before .before .before .before .before .before .pre .1 .weight), replaced-under _ _ _ _ (c .before .before .before .before .before .before .before .before .before .before .before .before .before .replacement .ensures), weighted-under _ _ _ _ _ (c .before .before .before .before .before .before .before .before .before .before .before .weighted-rest .ensures))
+add-marked c =
+    let k = c .before .before .before .before .before .before .before .before .before .before .before in
+    omega (arith, entry k .pre .1 .weight, replaced-small k, rest-small k)
 
 marked-requires-3 : tie.Need-marked-requires-3
 marked-requires-3 c κs = search needs
 
 add-s-6 : tie.Need-add-s-6
-add-s-6 c = let p = c .before .before .before .before .before .before .before .before .before .before .before .before .before .before .before .before .before .before .before .before .before .before .pre in omega (arith, (p .0 .exempt), (p .1 .weight), replaced-under _ _ _ _ (c .before .before .before .before .before .before .before .before .before .before .before .before .before .before .before .replacement .ensures), weighted-under _ _ _ _ _ (c .before .before .before .before .before .before .before .before .before .before .before .before .before .weighted-rest .ensures), marked-under (c .before .before .bit2 .result) (1000 * (c .before .before .before .before .before .before .before .before .before .before .before .before .before .before .before .replacement .result) + (c .before .before .before .before .before .before .before .before .before .before .before .before .before .weighted-rest .result)) _ (c .before .marked3 .ensures))
+add-s-6 c =
+    let k = c .before .before .before .before .before .before .before .before .before .before .before .before .before in
+    omega (arith, entry k .pre .0 .exempt, entry k .pre .1 .weight, replaced-small k, rest-small k,
+    marked-under (c .before .before .bit2 .result) (1000 * k .before .before .replacement .result + k .weighted-rest .result) _ (c .before .marked3 .ensures))
 
 mul-s-2 : tie.Need-mul-s-2
-mul-s-2 c = omega (arith, (c .before .before .before .before .before .before .before .before .before .before .before .before .before .before .before .before .before .before .before .before .before .before .before .pre .1 .weight))
+mul-s-2 c =
+    let k = c .before .before .before .before .before .before .before .before .before .before .before .before .before .before in
+    omega (arith, entry k .pre .1 .weight)
 
 add-s-7 : tie.Need-add-s-7
-add-s-7 c = let p = c .before .before .before .before .before .before .before .before .before .before .before .before .before .before .before .before .before .before .before .before .before .before .before .before .pre in omega (arith, (p .0 .written), (p .1 .weight))
+add-s-7 c =
+    let k = c .before .before .before .before .before .before .before .before .before .before .before .before .before .before .before in
+    omega (arith, entry k .pre .0 .written, entry k .pre .1 .weight)
 
 mul-s-3 : tie.Need-mul-s-3
-mul-s-3 c = omega (arith, (c .before .before .before .before .before .before .before .before .before .before .before .before .before .before .before .before .before .before .before .before .before .before .before .before .before .pre .1 .weight))
+mul-s-3 c =
+    let k = c .before .before .before .before .before .before .before .before .before .before .before .before .before .before .before .before in
+    omega (arith, entry k .pre .1 .weight)
 
 sub-s : tie.Need-sub-s
-sub-s c = weighted-less _ _ _ _ _ _ _ (c .before .before .before .before .before .before .before .before .before .before .before .before .before .before .before .before .weighted-rest .ensures) (c .before .before .before .before .before .before .before .before .before .before .before .before .before .before .before .before .before .weighted-in .ensures) (omega arith)
+sub-s c =
+    let k = c .before .before .before .before .before .before .before .before .before .before .before .before .before .before .before .before in
+    weighted-less _ _ _ _ _ _ _ (k .weighted-rest .ensures) (k .before .weighted-in .ensures) (omega arith)
 
 add-s-8 : tie.Need-add-s-8
-add-s-8 c = omega (arith, (c .before .before .before .before .before .before .before .before .before .before .before .before .before .before .before .before .before .before .before .before .before .before .before .before .before .pre .1 .weight), weighted-under _ _ _ _ _ (c .before .before .before .before .before .before .before .before .before .before .before .before .before .before .before .before .before .weighted-in .ensures))
+add-s-8 c =
+    let k = c .before .before .before .before .before .before .before .before .before .before .before .before .before .before .before .before in
+    omega (arith, entry k .pre .1 .weight, gross-small k)
 
 add-s-9 : tie.Need-add-s-9
-add-s-9 c = let p = c .before .before .before .before .before .before .before .before .before .before .before .before .before .before .before .before .before .before .before .before .before .before .before .before .before .before .pre in omega (arith, (p .0 .covered), (p .1 .weight), weighted-under _ _ _ _ _ (c .before .before .before .before .before .before .before .before .before .before .before .before .before .before .before .before .before .before .weighted-in .ensures))
+add-s-9 c =
+    let k = c .before .before .before .before .before .before .before .before .before .before .before .before .before .before .before .before .before in
+    omega (arith, entry k .pre .0 .covered, entry k .pre .1 .weight, gross-small k)
 
 returns : tie.Need-returns
-returns c = let a = c .before .before .before .before .before .before .before .before .before .before .before .before .before .before .before .before .before .before .before .before .before .before .before .before .before .before .args in with-set-is (a .w) (a .received) (a .paid) (a .posted) (a .t) (a .s) _ _ _ _ _ _ _ _ _ (c .before .before .before .before .before .before .before .before .before .before .before .before .before .before .before .before .before .before .before .before .before .before .before .before .margin-counts .ensures) (c .before .before .before .before .before .before .bit2 .ensures) ((c .before .before .before .before .before .before .before .before .before .before .before .before .before .before .before .wide2 .ensures) ∙ (c .before .before .before .before .before .before .before .before .before .before .before .before .before .before .before .before .size2 .ensures)) ((c .before .before .before .before .before .before .before .before .before .before .wide3 .ensures) ∙ (c .before .before .before .before .before .before .before .before .before .before .before .size3 .ensures)) (c .before .before .before .before .before .before .before .before .marked2 .ensures) (c .before .before .before .before .before .marked3 .ensures) (replaced-is (a .w) (a .received) (a .paid) (a .posted) (a .t) _ _ _ _ _ (c .before .before .before .before .before .before .before .before .before .before .before .before .before .before .before .before .before .before .before .before .before .before .before .before .before .bit .ensures) (c .before .before .before .before .before .before .before .before .before .before .before .before .before .before .before .before .before .before .before .before .before .before .before .before .margin-counts .ensures) ((c .before .before .before .before .before .before .before .before .before .before .before .before .before .before .before .before .before .before .before .before .before .before .wide .ensures) ∙ (c .before .before .before .before .before .before .before .before .before .before .before .before .before .before .before .before .before .before .before .before .before .before .before .size .ensures)) (c .before .before .before .before .before .before .before .before .before .before .before .before .before .before .before .before .before .before .before .before .before .marked .ensures) (c .before .before .before .before .before .before .before .before .before .before .before .before .before .before .before .before .before .before .before .replacement .ensures)) (weighted-is (a .w) (a .received) (a .paid) (a .posted) (a .t) _ _ _ (c .before .before .before .before .before .before .before .before .before .before .before .before .before .before .before .before .before .before .before .before .before .before .before .before .before .bit .ensures) (c .before .before .before .before .before .before .before .before .before .before .before .before .before .before .before .before .before .before .weighted-in .ensures)) (weighted-is (a .w) (a .received) (a .paid) (a .posted) (a .t) _ _ _ (c .before .before .before .before .before .before .before .before .before .before .before .before .before .before .before .before .before .before .before .before .before .before .before .before .before .bit .ensures) (c .before .before .before .before .before .before .before .before .before .before .before .before .before .before .before .before .before .weighted-rest .ensures))
+returns c =
+    let k = c .before .before .before .before .before .before .before .before .before .before .before .before .before .before .before .before .before in
+    let a = entry k .args in
+    let netting = k .before .before .before .before .before .before .before .before .bit .ensures in
+    let counts = k .before .before .before .before .before .before .before .margin-counts .ensures in
+    with-set-is (a .w) (a .received) (a .paid) (a .posted) (a .t) (a .s) _ _ _ _ _ _ _ _ _ counts (c .before .before .before .before .before .before .bit2 .ensures) (c .before .before .before .before .before .before .before .before .before .before .before .before .before .before .before .wide2 .ensures ∙ c .before .before .before .before .before .before .before .before .before .before .before .before .before .before .before .before .size2 .ensures)
+    (c .before .before .before .before .before .before .before .before .before .before .wide3 .ensures ∙ c .before .before .before .before .before .before .before .before .before .before .before .size3 .ensures) (c .before .before .before .before .before .before .before .before .marked2 .ensures) (c .before .before .before .before .before .marked3 .ensures)
+    (replaced-is (a .w) (a .received) (a .paid) (a .posted) (a .t) _ _ _ _ _ netting counts (k .before .before .before .before .before .wide .ensures ∙ k .before .before .before .before .before .before .size .ensures) (k .before .before .before .before .marked .ensures) (k .before .before .replacement .ensures))
+    (weighted-is (a .w) (a .received) (a .paid) (a .posted) (a .t) _ _ _ netting (k .before .weighted-in .ensures))
+    (weighted-is (a .w) (a .received) (a .paid) (a .posted) (a .t) _ _ _ netting (k .weighted-rest .ensures))
 
 pub with-set-spec : {M : Type 1} → statement M
 with-set-spec =
