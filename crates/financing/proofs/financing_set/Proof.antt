@@ -3,21 +3,13 @@ use borrow.Author.Needs.{needs}
 use Rattle.financing.proofs.SetSteps.{set-stop, set-broken, set-light, set-whole}
 use Rattle.financing.proofs.financing_set.Statement.{statement}
 use Rattle.financing.proofs.financing_set.Tie as tie
-use Rattle.financing.proofs.financing_set.Reads as reads
-use Rattle.financing.proofs.financing_set.Lts as lts
-use Rattle.financing.proofs.faults.financing_set_fault.Reads as financing-set-fault-reads
-use Rattle.financing.proofs.tally.with_set.Reads as with-set-reads
-use Rattle.financing.proofs.trades.weigh.Reads as weigh-reads
 
--- src/lib.rt:26:16
 shared-slice-read-head : tie.Need-shared-slice-read-head
 shared-slice-read-head c = search needs
 
--- src/lib.rt:27:9
 financing-set-fault-requires : tie.Need-financing-set-fault-requires
 financing-set-fault-requires c κs = search needs
 
--- src/lib.rt:29:9
 returns : tie.Need-returns
 returns c =
     let a = c .before .before .before .before .args in
@@ -26,15 +18,12 @@ returns c =
     let if1 = c .if1 in
     set-stop (a .bands) (a .s) _ (p .0) (p .1 .0) _ (financing-set-fault .ensures) (if1 .taken)
 
--- src/lib.rt:31:11
 weigh-requires : tie.Need-weigh-requires
 weigh-requires c κs = search needs
 
--- src/lib.rt:32:24
 enum-known-t : tie.Need-enum-known-t
 enum-known-t c = search needs
 
--- src/lib.rt:32:51
 with-set-requires : tie.Need-with-set-requires
 with-set-requires c κs =
     let p = c .before .before .before .before .before .before .before .before .pre in
@@ -47,11 +36,9 @@ with-set-requires c κs =
       set-light (a .bands) (a .s) _ (p .0) (p .1 .0) _ (financing-set-fault .ensures) (if1 .left) _ (weigh .ensures) _ _ (t .given .1),
     )
 
--- src/lib.rt:33:25
 enum-known-number : tie.Need-enum-known-number
 enum-known-number c = search needs
 
--- src/lib.rt:22:1
 returns-2 : tie.Need-returns-2
 returns-2 c =
     let a = c .before .before .before .before .before .before .before .before .before .args in
@@ -64,7 +51,6 @@ returns-2 c =
     set-whole (a .bands) (a .s) _ (p .0) (p .1 .0) _ (financing-set-fault .ensures) (if1 .left) _ (weigh .ensures) _ _ (t .given .1) _
     (with-set .ensures)
 
--- src/lib.rt:22:1
 returns-3 : tie.Need-returns-3
 returns-3 c =
     let a = c .before .before .before .before .before .before .before .before .args in

@@ -5,101 +5,72 @@ use lib.Seq.{length-take-le}
 use borrow.Author.Needs.{needs}
 use Rattle.leverage_print.proofs.main.Statement.{statement}
 use Rattle.leverage_print.proofs.main.Tie as tie
-use Rattle.leverage_print.proofs.main.Reads as reads
-use Rattle.leverage_print.proofs.main.Lts as lts
-use Rattle.io.proofs.read_full.Reads as read-full-reads
-use Rattle.io.proofs.write_all.Reads as write-all-reads
-use Rattle.leverage.proofs.alone.file_alone.Reads as file-alone-reads
-use Rattle.streams.proofs.gather.Reads as gather-reads
-use Rattle.leverage_print.proofs.print_refused.Reads as print-refused-reads
-use Rattle.leverage_print.proofs.print_rows.Reads as print-rows-reads
-use Rattle.leverage_print.proofs.print_verdict.Reads as print-verdict-reads
 
--- src/main.rt:39:41
 slice-aggregate-read-full : tie.Need-slice-aggregate-read-full
 slice-aggregate-read-full c = search needs
 
--- src/main.rt:39:9
 read-full-requires : tie.Need-read-full-requires
 read-full-requires c κs = search needs
 
--- src/main.rt:41:38
 slice-aggregate-write-all : tie.Need-slice-aggregate-write-all
 slice-aggregate-write-all c = search needs
 
--- src/main.rt:41:9
 write-all-requires : tie.Need-write-all-requires
 write-all-requires c κs = search needs
 
--- src/main.rt:42:9
 returns : tie.Need-returns
 returns c = search needs
 
--- src/main.rt:45:38
 slice-aggregate-write-all-2 : tie.Need-slice-aggregate-write-all-2
 slice-aggregate-write-all-2 c = search needs
 
--- src/main.rt:45:9
 write-all-requires-2 : tie.Need-write-all-requires-2
 write-all-requires-2 c κs = search needs
 
--- src/main.rt:46:9
 returns-2 : tie.Need-returns-2
 returns-2 c = search needs
 
--- src/main.rt:49:12
 slice-aggregate-gather : tie.Need-slice-aggregate-gather
 slice-aggregate-gather c = search needs
 
--- src/main.rt:49:20
 slice-aggregate-gather-2 : tie.Need-slice-aggregate-gather-2
 slice-aggregate-gather-2 c = search needs
 
--- src/main.rt:49:5
 gather-requires : tie.Need-gather-requires
 gather-requires c κs = search needs
 
--- src/main.rt:51:22
 array-share-prefix-words : tie.Need-array-share-prefix-words
 array-share-prefix-words c = search needs
 
--- src/main.rt:51:22
 slice-aggregate-file-alone : tie.Need-slice-aggregate-file-alone
-slice-aggregate-file-alone c = sym (length-take-le (c .before .before .before .before .before .before .before .before .read-full .result / 4) (c .before .before .gather .last .1 .0) (omega (arith, c .before .words2 .given)))
+slice-aggregate-file-alone c =
+    let read-full = c .before .before .before .before .before .before .before .before .read-full in
+    sym (length-take-le (read-full .result / 4) (c .before .before .gather .last .1 .0) (omega (arith, c .before .words2 .given)))
 
--- src/main.rt:51:39
 slice-aggregate-file-alone-2 : tie.Need-slice-aggregate-file-alone-2
 slice-aggregate-file-alone-2 c = search needs
 
--- src/main.rt:51:11
 file-alone-requires : tie.Need-file-alone-requires
 file-alone-requires c κs = search needs
 
--- src/main.rt:52:25
 enum-known-number : tie.Need-enum-known-number
 enum-known-number c = search needs
 
--- src/main.rt:52:43
 print-refused-requires : tie.Need-print-refused-requires
 print-refused-requires c κs = search needs
 
--- src/main.rt:53:26
 enum-known-verdict : tie.Need-enum-known-verdict
 enum-known-verdict c = search needs
 
--- src/main.rt:54:13
 print-rows-requires : tie.Need-print-rows-requires
 print-rows-requires c κs = search needs
 
--- src/main.rt:55:13
 print-verdict-requires : tie.Need-print-verdict-requires
 print-verdict-requires c κs = search needs
 
--- src/main.rt:36:1
 returns-3 : tie.Need-returns-3
 returns-3 c = search needs
 
--- src/main.rt:36:1
 returns-4 : tie.Need-returns-4
 returns-4 c = search needs
 

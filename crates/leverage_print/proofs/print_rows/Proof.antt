@@ -2,12 +2,6 @@ use Prim.Native.Nat.{_-_, _≤_}
 use borrow.Author.Needs.{needs}
 use Rattle.leverage_print.proofs.print_rows.Statement.{statement}
 use Rattle.leverage_print.proofs.print_rows.Tie as tie
-use Rattle.leverage_print.proofs.print_rows.Reads as reads
-use Rattle.leverage_print.proofs.print_rows.Lts as lts
-use Rattle.io.proofs.print_decimal.Reads as print-decimal-reads
-use Rattle.io.proofs.write_all.Reads as write-all-reads
-use Rattle.streams.proofs.end_line.Reads as end-line-reads
-use Rattle.streams.proofs.print_signed.Reads as print-signed-reads
 
 abbrev Inv-loop : tie.InvT-loop
 Inv-loop rows k₀ t4 k = k ≤ 22
@@ -15,55 +9,42 @@ Inv-loop rows k₀ t4 k = k ≤ 22
 abbrev μ-loop : tie.MeasureT-loop
 μ-loop rows k₀ t4 k = 22 - k
 
--- src/main.rt:13:5
 loop-holds : tie.Need-loop-holds Inv-loop μ-loop
 loop-holds c = search needs
 
--- src/main.rt:14:42
 add-print-decimal : tie.Need-add-print-decimal Inv-loop μ-loop
 add-print-decimal c = search needs
 
--- src/main.rt:14:9
 print-decimal-requires : tie.Need-print-decimal-requires Inv-loop μ-loop
 print-decimal-requires c κs = search needs
 
--- src/main.rt:15:38
 slice-aggregate-write-all : tie.Need-slice-aggregate-write-all Inv-loop μ-loop
 slice-aggregate-write-all c = search needs
 
--- src/main.rt:15:9
 write-all-requires : tie.Need-write-all-requires Inv-loop μ-loop
 write-all-requires c κs = search needs
 
--- src/main.rt:16:22
 mul-print-signed : tie.Need-mul-print-signed Inv-loop μ-loop
 mul-print-signed c = search needs
 
--- src/main.rt:16:22
 array-copy-out-print-signed : tie.Need-array-copy-out-print-signed Inv-loop μ-loop
 array-copy-out-print-signed c = search needs
 
--- src/main.rt:16:9
 print-signed-requires : tie.Need-print-signed-requires Inv-loop μ-loop
 print-signed-requires c κs = search needs
 
--- src/main.rt:17:9
 end-line-requires : tie.Need-end-line-requires Inv-loop μ-loop
 end-line-requires c κs = search needs
 
--- src/main.rt:18:9
 add-k : tie.Need-add-k Inv-loop μ-loop
 add-k c = search needs
 
--- src/main.rt:13:5
 loop-less : tie.Need-loop-less Inv-loop μ-loop
 loop-less c = search needs
 
--- src/main.rt:13:5
 loop-again : tie.Need-loop-again Inv-loop μ-loop
 loop-again c = search needs
 
--- src/main.rt:11:1
 returns : tie.Need-returns Inv-loop μ-loop
 returns c = search needs
 

@@ -4,9 +4,6 @@ use lib.ListN.{length}
 use borrow.Author.Needs.{needs}
 use Rattle.leverage_samples.proofs.file_each.Statement.{statement}
 use Rattle.leverage_samples.proofs.file_each.Tie as tie
-use Rattle.leverage_samples.proofs.file_each.Reads as reads
-use Rattle.leverage_samples.proofs.file_each.Lts as lts
-use Rattle.leverage_samples.proofs.sample.file_next.Reads as file-next-reads
 
 abbrev Inv-loop : tie.InvT-loop
 Inv-loop fd bytes₀ words₀ rows₀ count₀ bytes words rows count = (length bytes ≡ length bytes₀) × ((length words ≡ length words₀) × (length rows ≡ length rows₀))
@@ -14,55 +11,42 @@ Inv-loop fd bytes₀ words₀ rows₀ count₀ bytes words rows count = (length 
 abbrev μ-loop : tie.MeasureT-loop
 μ-loop fd bytes₀ words₀ rows₀ count₀ bytes words rows count = 100000 - count
 
--- src/main.rt:14:5
 loop-holds : tie.Need-loop-holds Inv-loop μ-loop
 loop-holds c = (refl, (refl, refl))
 
--- src/main.rt:14:29
 file-next-requires : tie.Need-file-next-requires Inv-loop μ-loop
 file-next-requires c κs = search needs
 
--- src/main.rt:15:9
 add-count : tie.Need-add-count Inv-loop μ-loop
 add-count c = search needs
 
--- src/main.rt:14:5
 loop-less : tie.Need-loop-less Inv-loop μ-loop
 loop-less c = search needs
 
--- src/main.rt:14:5
 loop-again : tie.Need-loop-again Inv-loop μ-loop
 loop-again c = search needs
 
--- src/main.rt:12:1
 same-length : tie.Need-same-length Inv-loop μ-loop
 same-length c = search needs
 
--- src/main.rt:12:1
 same-length-2 : tie.Need-same-length-2 Inv-loop μ-loop
 same-length-2 c = search needs
 
--- src/main.rt:12:1
 same-length-3 : tie.Need-same-length-3 Inv-loop μ-loop
 same-length-3 c = search needs
 
--- src/main.rt:12:1
 returns : tie.Need-returns Inv-loop μ-loop
 returns c = search needs
 
--- src/main.rt:12:1
 same-length-4 : tie.Need-same-length-4 Inv-loop μ-loop
 same-length-4 c = search needs
 
--- src/main.rt:12:1
 same-length-5 : tie.Need-same-length-5 Inv-loop μ-loop
 same-length-5 c = search needs
 
--- src/main.rt:12:1
 same-length-6 : tie.Need-same-length-6 Inv-loop μ-loop
 same-length-6 c = search needs
 
--- src/main.rt:12:1
 returns-2 : tie.Need-returns-2 Inv-loop μ-loop
 returns-2 c = search needs
 

@@ -5,9 +5,6 @@ use lib.ListN.{length, length-set}
 use borrow.Author.Needs.{needs}
 use Rattle.streams.proofs.gather.Statement.{statement}
 use Rattle.streams.proofs.gather.Tie as tie
-use Rattle.streams.proofs.gather.Reads as reads
-use Rattle.streams.proofs.gather.Lts as lts
-use Rattle.streams.proofs.word_of.Reads as word-of-reads
 
 abbrev Inv-loop : tie.InvT-loop
 Inv-loop bytes words₀ n i₀ words i = (i ≤ n) × (length words ≡ length words₀)
@@ -15,71 +12,54 @@ Inv-loop bytes words₀ n i₀ words i = (i ≤ n) × (length words ≡ length w
 abbrev μ-loop : tie.MeasureT-loop
 μ-loop bytes words₀ n i₀ words i = n - i
 
--- src/lib.rt:17:5
 loop-holds : tie.Need-loop-holds Inv-loop μ-loop
 loop-holds c = (omega arith, refl)
 
--- src/lib.rt:18:18
 mul-at : tie.Need-mul-at Inv-loop μ-loop
 mul-at c = search needs
 
--- src/lib.rt:19:28
 shared-slice-read-word-of : tie.Need-shared-slice-read-word-of Inv-loop μ-loop
 shared-slice-read-word-of c = search needs
 
--- src/lib.rt:19:45
 add-word-of : tie.Need-add-word-of Inv-loop μ-loop
 add-word-of c = search needs
 
--- src/lib.rt:19:39
 shared-slice-read-word-of-2 : tie.Need-shared-slice-read-word-of-2 Inv-loop μ-loop
 shared-slice-read-word-of-2 c = search needs
 
--- src/lib.rt:19:60
 add-word-of-2 : tie.Need-add-word-of-2 Inv-loop μ-loop
 add-word-of-2 c = search needs
 
--- src/lib.rt:19:54
 shared-slice-read-word-of-3 : tie.Need-shared-slice-read-word-of-3 Inv-loop μ-loop
 shared-slice-read-word-of-3 c = search needs
 
--- src/lib.rt:19:75
 add-word-of-3 : tie.Need-add-word-of-3 Inv-loop μ-loop
 add-word-of-3 c = search needs
 
--- src/lib.rt:19:69
 shared-slice-read-word-of-4 : tie.Need-shared-slice-read-word-of-4 Inv-loop μ-loop
 shared-slice-read-word-of-4 c = search needs
 
--- src/lib.rt:19:20
 word-of-requires : tie.Need-word-of-requires Inv-loop μ-loop
 word-of-requires c κs = search needs
 
--- src/lib.rt:19:9
 mul-words : tie.Need-mul-words Inv-loop μ-loop
 mul-words c = search needs
 
--- src/lib.rt:19:9
 slice-write-words : tie.Need-slice-write-words Inv-loop μ-loop
 slice-write-words c = search needs
 
--- src/lib.rt:20:9
 add-i : tie.Need-add-i Inv-loop μ-loop
 add-i c = search needs
 
--- src/lib.rt:17:5
 loop-less : tie.Need-loop-less Inv-loop μ-loop
 loop-less c = search needs
 
--- src/lib.rt:17:5
 loop-again : tie.Need-loop-again Inv-loop μ-loop
 loop-again c = (omega arith, simp length-set (c .before .before .before .before .before .before .loop .inv .1))
 
--- src/lib.rt:13:1
 same-length : tie.Need-same-length Inv-loop μ-loop
 same-length c = search needs
 
--- src/lib.rt:13:1
 returns : tie.Need-returns Inv-loop μ-loop
 returns c = search needs
 

@@ -7,10 +7,7 @@ use Rattle.streams.proofs.Magnitudes.{below, from-zero}
 use borrow.Author.Needs.{needs}
 use Rattle.streams.proofs.magnitude.Statement.{statement}
 use Rattle.streams.proofs.magnitude.Tie as tie
-use Rattle.streams.proofs.magnitude.Reads as reads
-use Rattle.streams.proofs.magnitude.Lts as lts
 
--- src/lib.rt:26:17
 sub-result : tie.Need-sub-result
 sub-result c =
     let z = c .before .args .z in
@@ -18,7 +15,6 @@ sub-result c =
     let b = below z f (rw (toZ-ofZ w64 z f) at (c .if1 .taken)) in
     rw (toZ-ofZ w64 z f, b .is) (record { sfits = b .small })
 
--- src/lib.rt:26:16
 cast-result : tie.Need-cast-result
 cast-result c =
     let z = c .before .args .z in
@@ -26,7 +22,6 @@ cast-result c =
     let b = below z f (rw (toZ-ofZ w64 z f) at (c .if1 .taken)) in
     rw (toZ-ofZ w64 z f, b .is, toZ-ofZ w64 (pos (b .less)) (record { sfits = b .small })) (tt, omega (arith, b .small))
 
--- src/lib.rt:26:16
 add-result : tie.Need-add-result
 add-result c =
     let z = c .before .args .z in
@@ -34,18 +29,15 @@ add-result c =
     let b = below z f (rw (toZ-ofZ w64 z f) at (c .if1 .taken)) in
     rw (toZ-ofZ w64 z f, b .is, toZ-ofZ w64 (pos (b .less)) (record { sfits = b .small })) (omega (arith, b .small))
 
--- src/lib.rt:26:45
 cast-result-2 : tie.Need-cast-result-2
 cast-result-2 c =
     let z = c .before .args .z in
     let f = c .before .fits .z in
     rw (toZ-ofZ w64 z f) (from-zero z f (rw (toZ-ofZ w64 z f) at (c .if1 .left)))
 
--- src/lib.rt:25:1
 returns : tie.Need-returns
 returns c = search needs
 
--- src/lib.rt:25:1
 returns-2 : tie.Need-returns-2
 returns-2 c = search needs
 

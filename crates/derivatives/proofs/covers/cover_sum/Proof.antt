@@ -23,13 +23,20 @@ lacking-requires : tie.Need-lacking-requires Inv-loop μ-loop
 lacking-requires c κs = ((c .before .before .loop .inv .along .within), ((c .before .before .before .before .pre .1), omega arith))
 
 returns : tie.Need-returns Inv-loop μ-loop
-returns c = cover-lacks _ _ _ _ (c .before .before .before .before .loop .inv) _ (c .before .before .before .standing .ensures) (c .before .before .if1 .taken) _ (c .before .lacking .ensures) (c .if2 .taken)
+returns c =
+    let standing = c .before .before .before .standing in
+    let l = c .before .before .before .before .loop in
+    cover-lacks _ _ _ _ (l .inv) _ (standing .ensures) (c .before .before .if1 .taken) _ (c .before .lacking .ensures) (c .if2 .taken)
 
 mul-cover-fault : tie.Need-mul-cover-fault Inv-loop μ-loop
 mul-cover-fault c = search needs
 
 shared-slice-read-cover-fault : tie.Need-shared-slice-read-cover-fault Inv-loop μ-loop
-shared-slice-read-cover-fault c = cover-within _ _ _ _ (c .before .before .before .before .before .loop .inv) _ (c .before .before .before .before .standing .ensures) (c .before .before .before .if1 .taken)
+shared-slice-read-cover-fault c =
+    let if1 = c .before .before .before .if1 in
+    let standing = c .before .before .before .before .standing in
+    let l = c .before .before .before .before .before .loop in
+    cover-within _ _ _ _ (l .inv) _ (standing .ensures) (if1 .taken)
 
 add-cover-fault : tie.Need-add-cover-fault Inv-loop μ-loop
 add-cover-fault c = search needs
@@ -38,13 +45,24 @@ mul-cover-fault-2 : tie.Need-mul-cover-fault-2 Inv-loop μ-loop
 mul-cover-fault-2 c = search needs
 
 shared-slice-read-cover-fault-2 : tie.Need-shared-slice-read-cover-fault-2 Inv-loop μ-loop
-shared-slice-read-cover-fault-2 c = cover-room _ _ _ _ (c .before .before .before .before .before .before .loop .inv) _ (c .before .before .before .before .before .standing .ensures) (c .before .before .before .before .if1 .taken) _ (c .before .before .before .lacking .ensures) (c .before .before .if2 .left)
+shared-slice-read-cover-fault-2 c =
+    let lacking = c .before .before .before .lacking in
+    let if1 = c .before .before .before .before .if1 in
+    let standing = c .before .before .before .before .before .standing in
+    let l = c .before .before .before .before .before .before .loop in
+    cover-room _ _ _ _ (l .inv) _ (standing .ensures) (if1 .taken) _ (lacking .ensures) (c .before .before .if2 .left)
 
 cover-fault-requires : tie.Need-cover-fault-requires Inv-loop μ-loop
 cover-fault-requires c κs = search needs
 
 returns-2 : tie.Need-returns-2 Inv-loop μ-loop
-returns-2 c = cover-wrong _ _ _ _ (c .before .before .before .before .before .before .before .before .loop .inv) _ (c .before .before .before .before .before .before .before .standing .ensures) (c .before .before .before .before .before .before .if1 .taken) _ (c .before .before .before .before .before .lacking .ensures) (c .before .before .before .before .if2 .left) _ (c .before .cover-fault .ensures) (c .if3 .taken)
+returns-2 c =
+    let if2 = c .before .before .before .before .if2 in
+    let lacking = c .before .before .before .before .before .lacking in
+    let if1 = c .before .before .before .before .before .before .if1 in
+    let standing = c .before .before .before .before .before .before .before .standing in
+    let l = c .before .before .before .before .before .before .before .before .loop in
+    cover-wrong _ _ _ _ (l .inv) _ (standing .ensures) (if1 .taken) _ (lacking .ensures) (if2 .left) _ (c .before .cover-fault .ensures) (c .if3 .taken)
 
 add-size : tie.Need-add-size Inv-loop μ-loop
 add-size c = search needs
@@ -53,7 +71,13 @@ mul-size : tie.Need-mul-size Inv-loop μ-loop
 mul-size c = search needs
 
 shared-slice-read-size : tie.Need-shared-slice-read-size Inv-loop μ-loop
-shared-slice-read-size c = cover-room _ _ _ _ (c .before .before .before .before .before .before .before .before .before .loop .inv) _ (c .before .before .before .before .before .before .before .before .standing .ensures) (c .before .before .before .before .before .before .before .if1 .taken) _ (c .before .before .before .before .before .before .lacking .ensures) (c .before .before .before .before .before .if2 .left)
+shared-slice-read-size c =
+    let if2 = c .before .before .before .before .before .if2 in
+    let lacking = c .before .before .before .before .before .before .lacking in
+    let if1 = c .before .before .before .before .before .before .before .if1 in
+    let standing = c .before .before .before .before .before .before .before .before .standing in
+    let l = c .before .before .before .before .before .before .before .before .before .loop in
+    cover-room _ _ _ _ (l .inv) _ (standing .ensures) (if1 .taken) _ (lacking .ensures) (if2 .left)
 
 size-requires : tie.Need-size-requires Inv-loop μ-loop
 size-requires c κs = search needs
@@ -68,10 +92,22 @@ add-next : tie.Need-add-next Inv-loop μ-loop
 add-next c = search needs
 
 loop-less : tie.Need-loop-less Inv-loop μ-loop
-loop-less c = omega (arith, cover-within _ _ _ _ (c .before .before .before .before .before .before .before .before .before .before .before .loop .inv) _ (c .before .before .before .before .before .before .before .before .before .before .standing .ensures) (c .before .before .before .before .before .before .before .before .before .if1 .taken))
+loop-less c =
+    let if1 = c .before .before .before .before .before .before .before .before .before .if1 in
+    let standing = c .before .before .before .before .before .before .before .before .before .before .standing in
+    let l = c .before .before .before .before .before .before .before .before .before .before .before .loop in
+    omega (arith, cover-within _ _ _ _ (l .inv) _ (standing .ensures) (if1 .taken))
 
 loop-again : tie.Need-loop-again Inv-loop μ-loop
-loop-again c = covering-next _ _ _ _ (c .before .before .before .before .before .before .before .before .before .before .before .loop .inv) _ (c .before .before .before .before .before .before .before .before .before .before .standing .ensures) (c .before .before .before .before .before .before .before .before .before .if1 .taken) _ (c .before .before .before .before .before .before .before .before .lacking .ensures) (c .before .before .before .before .before .before .before .if2 .left) _ (c .before .before .before .before .cover-fault .ensures) (c .before .before .before .if3 .left) _ ((c .wide .ensures) ∙ (c .before .size .ensures))
+loop-again c =
+    let if3 = c .before .before .before .if3 in
+    let cover-fault = c .before .before .before .before .cover-fault in
+    let if2 = c .before .before .before .before .before .before .before .if2 in
+    let lacking = c .before .before .before .before .before .before .before .before .lacking in
+    let if1 = c .before .before .before .before .before .before .before .before .before .if1 in
+    let standing = c .before .before .before .before .before .before .before .before .before .before .standing in
+    let l = c .before .before .before .before .before .before .before .before .before .before .before .loop in
+    covering-next _ _ _ _ (l .inv) _ (standing .ensures) (if1 .taken) _ (lacking .ensures) (if2 .left) _ (cover-fault .ensures) (if3 .left) _ ((c .wide .ensures) ∙ (c .before .size .ensures))
 
 returns-3 : tie.Need-returns-3 Inv-loop μ-loop
 returns-3 c = cover-end _ _ _ _ (c .before .before .loop .inv) _ (c .before .standing .ensures) (c .if1 .left)

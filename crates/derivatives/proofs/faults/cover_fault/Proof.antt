@@ -23,11 +23,19 @@ size-requires c κs = search needs
 
 returns-3 : tie.Need-returns-3
 unfolding coverFault cause
-returns-3 c = simp (← (c .before .before .before .before .before .payload .ensures), lt-leb _ _ (c .before .before .before .before .if1 .left), ← (c .before .before .before .faulty-amount .ensures), (c .before .before .if2 .left), ← (c .before .size .ensures), eq-eqb _ _ (c .if3 .taken))
+returns-3 c =
+    let faulty-amount = c .before .before .before .faulty-amount in
+    let if1 = c .before .before .before .before .if1 in
+    let payload = c .before .before .before .before .before .payload in
+    simp (← (payload .ensures), lt-leb _ _ (if1 .left), ← (faulty-amount .ensures), (c .before .before .if2 .left), ← (c .before .size .ensures), eq-eqb _ _ (c .if3 .taken))
 
 returns-4 : tie.Need-returns-4
 unfolding coverFault cause
-returns-4 c = simp (← (c .before .before .before .before .before .payload .ensures), lt-leb _ _ (c .before .before .before .before .if1 .left), ← (c .before .before .before .faulty-amount .ensures), (c .before .before .if2 .left), ← (c .before .size .ensures), ne-eqb _ _ (c .if3 .left))
+returns-4 c =
+    let faulty-amount = c .before .before .before .faulty-amount in
+    let if1 = c .before .before .before .before .if1 in
+    let payload = c .before .before .before .before .before .payload in
+    simp (← (payload .ensures), lt-leb _ _ (if1 .left), ← (faulty-amount .ensures), (c .before .before .if2 .left), ← (c .before .size .ensures), ne-eqb _ _ (c .if3 .left))
 
 pub cover-fault-spec : {M : Type 1} → statement M
 cover-fault-spec =

@@ -20,7 +20,10 @@ both-requires : tie.Need-both-requires
 both-requires c κs = search needs
 
 returns-2 : tie.Need-returns-2
-returns-2 c = simp (← (c .before .before .before .before .size .ensures), ← (c .before .before .before .size2 .ensures), le-ltb _ _ (c .before .before .if1 .left), ← (c .before .bit .ensures)) (c .both .ensures)
+returns-2 c =
+    let size2 = c .before .before .before .size2 in
+    let size = c .before .before .before .before .size in
+    simp (← (size .ensures), ← (size2 .ensures), le-ltb _ _ (c .before .before .if1 .left), ← (c .before .bit .ensures)) (c .both .ensures)
 
 pub resets-faulty-spec : {M : Type 1} → statement M
 resets-faulty-spec =

@@ -18,13 +18,22 @@ faulty-days-requires : tie.Need-faulty-days-requires
 faulty-days-requires c κs = search needs
 
 returns-3 : tie.Need-returns-3
-returns-3 c = simp (← (c .before .before .before .before .before .minus-zero .ensures), (c .before .before .before .before .if1 .left), ← (c .before .before .before .faulty-amount .ensures), (c .before .before .if2 .left), ← (c .before .faulty-days .ensures), (c .if3 .taken))
+returns-3 c =
+    let faulty-amount = c .before .before .before .faulty-amount in
+    let if1 = c .before .before .before .before .if1 in
+    let minus-zero = c .before .before .before .before .before .minus-zero in
+    simp (← (minus-zero .ensures), (if1 .left), ← (faulty-amount .ensures), (c .before .before .if2 .left), ← (c .before .faulty-days .ensures), (c .if3 .taken))
 
 faulty-days-requires-2 : tie.Need-faulty-days-requires-2
 faulty-days-requires-2 c κs = search needs
 
 returns-4 : tie.Need-returns-4
-returns-4 c = simp (← (c .before .before .before .before .before .before .minus-zero .ensures), (c .before .before .before .before .before .if1 .left), ← (c .before .before .before .before .faulty-amount .ensures), (c .before .before .before .if2 .left), ← (c .before .before .faulty-days .ensures), (c .before .if3 .left), (c .faulty-days2 .ensures))
+returns-4 c =
+    let if2 = c .before .before .before .if2 in
+    let faulty-amount = c .before .before .before .before .faulty-amount in
+    let if1 = c .before .before .before .before .before .if1 in
+    let minus-zero = c .before .before .before .before .before .before .minus-zero in
+    simp (← (minus-zero .ensures), (if1 .left), ← (faulty-amount .ensures), (if2 .left), ← (c .before .before .faulty-days .ensures), (c .before .if3 .left), (c .faulty-days2 .ensures))
 
 pub trade-amounts-faulty-spec : {M : Type 1} → statement M
 trade-amounts-faulty-spec =

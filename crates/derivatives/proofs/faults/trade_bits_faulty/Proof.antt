@@ -22,7 +22,11 @@ class-faulty-requires : tie.Need-class-faulty-requires
 class-faulty-requires c κs = search needs
 
 returns-2 : tie.Need-returns-2
-returns-2 c = simp (← (c .before .before .before .before .before .payload .ensures), lt-leb _ _ (c .before .before .before .before .if1 .left), (c .class-faulty .ensures), (c .before .before .before .field .ensures), (c .before .before .field2 .ensures), (c .before .bit .ensures))
+returns-2 c =
+    let field = c .before .before .before .field in
+    let if1 = c .before .before .before .before .if1 in
+    let payload = c .before .before .before .before .before .payload in
+    simp (← (payload .ensures), lt-leb _ _ (if1 .left), (c .class-faulty .ensures), (field .ensures), (c .before .before .field2 .ensures), (c .before .bit .ensures))
 
 pub trade-bits-faulty-spec : {M : Type 1} → statement M
 trade-bits-faulty-spec =

@@ -22,11 +22,19 @@ resets-faulty-requires c κs = search needs
 
 returns-3 : tie.Need-returns-3
 unfolding tradeFault cause
-returns-3 c = simp (← (c .before .before .before .before .before .trade-bits-faulty .ensures), (c .before .before .before .before .if1 .left), ← (c .before .before .before .trade-amounts-faulty .ensures), (c .before .before .if2 .left), ← (c .before .resets-faulty .ensures), (c .if3 .taken))
+returns-3 c =
+    let trade-amounts-faulty = c .before .before .before .trade-amounts-faulty in
+    let if1 = c .before .before .before .before .if1 in
+    let trade-bits-faulty = c .before .before .before .before .before .trade-bits-faulty in
+    simp (← (trade-bits-faulty .ensures), (if1 .left), ← (trade-amounts-faulty .ensures), (c .before .before .if2 .left), ← (c .before .resets-faulty .ensures), (c .if3 .taken))
 
 returns-4 : tie.Need-returns-4
 unfolding tradeFault cause
-returns-4 c = simp (← (c .before .before .before .before .before .trade-bits-faulty .ensures), (c .before .before .before .before .if1 .left), ← (c .before .before .before .trade-amounts-faulty .ensures), (c .before .before .if2 .left), ← (c .before .resets-faulty .ensures), (c .if3 .left))
+returns-4 c =
+    let trade-amounts-faulty = c .before .before .before .trade-amounts-faulty in
+    let if1 = c .before .before .before .before .if1 in
+    let trade-bits-faulty = c .before .before .before .before .before .trade-bits-faulty in
+    simp (← (trade-bits-faulty .ensures), (if1 .left), ← (trade-amounts-faulty .ensures), (c .before .before .if2 .left), ← (c .before .resets-faulty .ensures), (c .if3 .left))
 
 pub trade-fault-spec : {M : Type 1} → statement M
 trade-fault-spec =

@@ -26,11 +26,21 @@ size-requires-2 c κs = search needs
 
 returns-3 : tie.Need-returns-3
 unfolding writtenFault cause
-returns-3 c = simp (← (c .before .before .before .before .before .before .payload .ensures), lt-leb _ _ (c .before .before .before .before .before .if1 .left), ← (c .before .before .before .before .written-amounts-faulty .ensures), (c .before .before .before .if2 .left), ← (c .before .before .size .ensures), ← (c .before .size2 .ensures), lt-ltb _ _ (c .if3 .taken))
+returns-3 c =
+    let if2 = c .before .before .before .if2 in
+    let written-amounts-faulty = c .before .before .before .before .written-amounts-faulty in
+    let if1 = c .before .before .before .before .before .if1 in
+    let payload = c .before .before .before .before .before .before .payload in
+    simp (← (payload .ensures), lt-leb _ _ (if1 .left), ← (written-amounts-faulty .ensures), (if2 .left), ← (c .before .before .size .ensures), ← (c .before .size2 .ensures), lt-ltb _ _ (c .if3 .taken))
 
 returns-4 : tie.Need-returns-4
 unfolding writtenFault cause
-returns-4 c = simp (← (c .before .before .before .before .before .before .payload .ensures), lt-leb _ _ (c .before .before .before .before .before .if1 .left), ← (c .before .before .before .before .written-amounts-faulty .ensures), (c .before .before .before .if2 .left), ← (c .before .before .size .ensures), ← (c .before .size2 .ensures), le-ltb _ _ (c .if3 .left))
+returns-4 c =
+    let if2 = c .before .before .before .if2 in
+    let written-amounts-faulty = c .before .before .before .before .written-amounts-faulty in
+    let if1 = c .before .before .before .before .before .if1 in
+    let payload = c .before .before .before .before .before .before .payload in
+    simp (← (payload .ensures), lt-leb _ _ (if1 .left), ← (written-amounts-faulty .ensures), (if2 .left), ← (c .before .before .size .ensures), ← (c .before .size2 .ensures), le-ltb _ _ (c .if3 .left))
 
 pub written-fault-spec : {M : Type 1} → statement M
 written-fault-spec =

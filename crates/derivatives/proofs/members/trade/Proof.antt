@@ -33,7 +33,11 @@ mul-notional : tie.Need-mul-notional
 mul-notional c = search needs
 
 shared-slice-read-notional : tie.Need-shared-slice-read-notional
-shared-slice-read-notional c = room _ 2 _ _ _ (c .before .before .before .before .lacking .ensures) (c .before .before .before .if1 .left) (c .before .before .before .before .before .before .pre .1 .within) (omega arith)
+shared-slice-read-notional c =
+    let e = c .before .before .before .before .before .before in
+    let if1 = c .before .before .before .if1 in
+    let lacking = c .before .before .before .before .lacking in
+    room _ 2 _ _ _ (lacking .ensures) (if1 .left) (e .pre .1 .within) (omega arith)
 
 add-days : tie.Need-add-days
 add-days c = search needs
@@ -42,7 +46,11 @@ mul-days : tie.Need-mul-days
 mul-days c = search needs
 
 shared-slice-read-days : tie.Need-shared-slice-read-days
-shared-slice-read-days c = room _ 3 _ _ _ (c .before .before .before .before .before .lacking .ensures) (c .before .before .before .before .if1 .left) (c .before .before .before .before .before .before .before .pre .1 .within) (omega arith)
+shared-slice-read-days c =
+    let e = c .before .before .before .before .before .before .before in
+    let if1 = c .before .before .before .before .if1 in
+    let lacking = c .before .before .before .before .before .lacking in
+    room _ 3 _ _ _ (lacking .ensures) (if1 .left) (e .pre .1 .within) (omega arith)
 
 add-reset-days : tie.Need-add-reset-days
 add-reset-days c = search needs
@@ -51,7 +59,11 @@ mul-reset-days : tie.Need-mul-reset-days
 mul-reset-days c = search needs
 
 shared-slice-read-reset-days : tie.Need-shared-slice-read-reset-days
-shared-slice-read-reset-days c = room _ 4 _ _ _ (c .before .before .before .before .before .before .lacking .ensures) (c .before .before .before .before .before .if1 .left) (c .before .before .before .before .before .before .before .before .pre .1 .within) (omega arith)
+shared-slice-read-reset-days c =
+    let e = c .before .before .before .before .before .before .before .before in
+    let if1 = c .before .before .before .before .before .if1 in
+    let lacking = c .before .before .before .before .before .before .lacking in
+    room _ 4 _ _ _ (lacking .ensures) (if1 .left) (e .pre .1 .within) (omega arith)
 
 trade-fault-requires : tie.Need-trade-fault-requires
 trade-fault-requires c κs = search needs

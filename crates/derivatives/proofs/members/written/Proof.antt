@@ -33,7 +33,11 @@ mul-notional : tie.Need-mul-notional
 mul-notional c = search needs
 
 shared-slice-read-notional : tie.Need-shared-slice-read-notional
-shared-slice-read-notional c = room _ 2 _ _ _ (c .before .before .before .before .lacking .ensures) (c .before .before .before .if1 .left) (c .before .before .before .before .before .before .pre .1 .within) (omega arith)
+shared-slice-read-notional c =
+    let e = c .before .before .before .before .before .before in
+    let if1 = c .before .before .before .if1 in
+    let lacking = c .before .before .before .before .lacking in
+    room _ 2 _ _ _ (lacking .ensures) (if1 .left) (e .pre .1 .within) (omega arith)
 
 add-loss-taken : tie.Need-add-loss-taken
 add-loss-taken c = search needs
@@ -42,7 +46,11 @@ mul-loss-taken : tie.Need-mul-loss-taken
 mul-loss-taken c = search needs
 
 shared-slice-read-loss-taken : tie.Need-shared-slice-read-loss-taken
-shared-slice-read-loss-taken c = room _ 3 _ _ _ (c .before .before .before .before .before .lacking .ensures) (c .before .before .before .before .if1 .left) (c .before .before .before .before .before .before .before .pre .1 .within) (omega arith)
+shared-slice-read-loss-taken c =
+    let e = c .before .before .before .before .before .before .before in
+    let if1 = c .before .before .before .before .if1 in
+    let lacking = c .before .before .before .before .before .lacking in
+    room _ 3 _ _ _ (lacking .ensures) (if1 .left) (e .pre .1 .within) (omega arith)
 
 add-premiums : tie.Need-add-premiums
 add-premiums c = search needs
@@ -51,7 +59,11 @@ mul-premiums : tie.Need-mul-premiums
 mul-premiums c = search needs
 
 shared-slice-read-premiums : tie.Need-shared-slice-read-premiums
-shared-slice-read-premiums c = room _ 5 _ _ _ (c .before .before .before .before .before .before .lacking .ensures) (c .before .before .before .before .before .if1 .left) (c .before .before .before .before .before .before .before .before .pre .1 .within) (omega arith)
+shared-slice-read-premiums c =
+    let e = c .before .before .before .before .before .before .before .before in
+    let if1 = c .before .before .before .before .before .if1 in
+    let lacking = c .before .before .before .before .before .before .lacking in
+    room _ 5 _ _ _ (lacking .ensures) (if1 .left) (e .pre .1 .within) (omega arith)
 
 add-written-fault : tie.Need-add-written-fault
 add-written-fault c = search needs
@@ -60,7 +72,11 @@ mul-written-fault : tie.Need-mul-written-fault
 mul-written-fault c = search needs
 
 shared-slice-read-written-fault : tie.Need-shared-slice-read-written-fault
-shared-slice-read-written-fault c = room _ 4 _ _ _ (c .before .before .before .before .before .before .before .lacking .ensures) (c .before .before .before .before .before .before .if1 .left) (c .before .before .before .before .before .before .before .before .before .pre .1 .within) (omega arith)
+shared-slice-read-written-fault c =
+    let e = c .before .before .before .before .before .before .before .before .before in
+    let if1 = c .before .before .before .before .before .before .if1 in
+    let lacking = c .before .before .before .before .before .before .before .lacking in
+    room _ 4 _ _ _ (lacking .ensures) (if1 .left) (e .pre .1 .within) (omega arith)
 
 written-fault-requires : tie.Need-written-fault-requires
 written-fault-requires c κs = search needs

@@ -40,8 +40,13 @@ marked-requires c κs = search needs
 
 add-with-margin : tie.Need-add-with-margin
 add-with-margin c =
-    omega (arith, c .before .before .before .before .before .before .pre .1 .losses, c .before .before .wide .ensures, c .before .before .before .size .ensures,
-    marked-under (c .before .before .before .before .margin-counts .result) (c .before .before .wide .result) _ (c .before .marked .ensures))
+    omega (
+      arith,
+      c .before .before .before .before .before .before .pre .1 .losses,
+      c .before .before .wide .ensures,
+      c .before .before .before .size .ensures,
+      marked-under (c .before .before .before .before .margin-counts .result) (c .before .before .wide .result) _ (c .before .marked .ensures),
+    )
 
 replacement-requires : tie.Need-replacement-requires
 replacement-requires c κs = search needs
@@ -98,8 +103,13 @@ add-s-5 : tie.Need-add-s-5
 add-s-5 c =
     let k = c .before .before .before .before .before .before .before .before .before .before in
     let paid = c .before .before .before .before .before .before .before .before .wide2 in
-    omega (arith, entry k .pre .0 .offset, paid .ensures, c .before .before .before .before .before .before .before .before .before .size2 .ensures,
-    marked-under (k .before .before .before .before .before .before .before .margin-counts .result) (1000 * paid .result) _ (c .before .marked2 .ensures))
+    omega (
+      arith,
+      entry k .pre .0 .offset,
+      paid .ensures,
+      c .before .before .before .before .before .before .before .before .before .size2 .ensures,
+      marked-under (k .before .before .before .before .before .before .before .margin-counts .result) (1000 * paid .result) _ (c .before .marked2 .ensures),
+    )
 
 bit-requires-2 : tie.Need-bit-requires-2
 bit-requires-2 c κs = search needs
@@ -115,8 +125,14 @@ marked-requires-3 c κs = search needs
 add-s-6 : tie.Need-add-s-6
 add-s-6 c =
     let k = c .before .before .before .before .before .before .before .before .before .before .before .before .before in
-    omega (arith, entry k .pre .0 .exempt, entry k .pre .1 .weight, replaced-small k, rest-small k,
-    marked-under (c .before .before .bit2 .result) (1000 * k .before .before .replacement .result + k .weighted-rest .result) _ (c .before .marked3 .ensures))
+    omega (
+      arith,
+      entry k .pre .0 .exempt,
+      entry k .pre .1 .weight,
+      replaced-small k,
+      rest-small k,
+      marked-under (c .before .before .bit2 .result) (1000 * k .before .before .replacement .result + k .weighted-rest .result) _ (c .before .marked3 .ensures),
+    )
 
 mul-s-2 : tie.Need-mul-s-2
 mul-s-2 c =

@@ -34,7 +34,14 @@ wide-requires-2 : tie.Need-wide-requires-2
 wide-requires-2 c κs = search needs
 
 mul-result : tie.Need-mul-result
-mul-result c = omega (arith, two-factors (c .before .before .wide .result) (c .wide2 .result) (omega (arith, factor-small (c .before .before .before .before .before .before .before .before .before .args .bands) (c .before .before .before .before .before .before .before .before .field .result) (c .before .before .before .before .before .before .before .bit .result) (c .before .before .before .before .before .before .bit2 .result) (c .before .before .before .before .before .size .result) (c .before .before .before .before .size2 .result))) (omega arith))
+mul-result c =
+    let e = c .before .before .before .before .before .before .before .before .before in
+    let size2 = c .before .before .before .before .size2 in
+    let size = c .before .before .before .before .before .size in
+    let bit2 = c .before .before .before .before .before .before .bit2 in
+    let bit = c .before .before .before .before .before .before .before .bit in
+    let field = c .before .before .before .before .before .before .before .before .field in
+    omega (arith, two-factors (c .before .before .wide .result) (c .wide2 .result) (omega (arith, factor-small (e .args .bands) (field .result) (bit .result) (bit2 .result) (size .result) (size2 .result))) (omega arith))
 
 size-requires-3 : tie.Need-size-requires-3
 size-requires-3 c κs = search needs
@@ -43,11 +50,28 @@ wide-requires-3 : tie.Need-wide-requires-3
 wide-requires-3 c κs = search needs
 
 mul-result-2 : tie.Need-mul-result-2
-mul-result-2 c = omega (arith, three-factors (c .before .before .before .before .wide .result) (c .before .before .wide2 .result) (c .wide3 .result) (omega (arith, factor-small (c .before .before .before .before .before .before .before .before .before .before .before .args .bands) (c .before .before .before .before .before .before .before .before .before .before .field .result) (c .before .before .before .before .before .before .before .before .before .bit .result) (c .before .before .before .before .before .before .before .before .bit2 .result) (c .before .before .before .before .before .before .before .size .result) (c .before .before .before .before .before .before .size2 .result))) (omega arith) (omega arith))
+mul-result-2 c =
+    let e = c .before .before .before .before .before .before .before .before .before .before .before in
+    let wide = c .before .before .before .before .wide in
+    let size2 = c .before .before .before .before .before .before .size2 in
+    let size = c .before .before .before .before .before .before .before .size in
+    let bit2 = c .before .before .before .before .before .before .before .before .bit2 in
+    let bit = c .before .before .before .before .before .before .before .before .before .bit in
+    let field = c .before .before .before .before .before .before .before .before .before .before .field in
+    omega (arith, three-factors (wide .result) (c .before .before .wide2 .result) (c .wide3 .result) (omega (arith, factor-small (e .args .bands) (field .result) (bit .result) (bit2 .result) (size .result) (size2 .result))) (omega arith) (omega arith))
 
 returns : tie.Need-returns
 unfolding tradeAddOn
-returns c = simp ((c .before .before .before .before .wide .ensures), (c .before .before .wide2 .ensures), (c .wide3 .ensures), (c .before .before .before .before .before .trade-factor .ensures), (c .before .before .before .before .before .before .before .before .before .before .field .ensures), (c .before .before .before .before .before .before .before .before .before .bit .ensures), (c .before .before .before .before .before .before .before .before .bit2 .ensures), (c .before .before .before .before .before .before .before .size .ensures), (c .before .before .before .before .before .before .size2 .ensures), (c .before .before .before .field2 .ensures), (c .before .size3 .ensures))
+returns c =
+    let field2 = c .before .before .before .field2 in
+    let wide = c .before .before .before .before .wide in
+    let trade-factor = c .before .before .before .before .before .trade-factor in
+    let size2 = c .before .before .before .before .before .before .size2 in
+    let size = c .before .before .before .before .before .before .before .size in
+    let bit2 = c .before .before .before .before .before .before .before .before .bit2 in
+    let bit = c .before .before .before .before .before .before .before .before .before .bit in
+    let field = c .before .before .before .before .before .before .before .before .before .before .field in
+    simp ((wide .ensures), (c .before .before .wide2 .ensures), (c .wide3 .ensures), (trade-factor .ensures), (field .ensures), (bit .ensures), (bit2 .ensures), (size .ensures), (size2 .ensures), (field2 .ensures), (c .before .size3 .ensures))
 
 pub trade-add-on-spec : {M : Type 1} → statement M
 trade-add-on-spec =

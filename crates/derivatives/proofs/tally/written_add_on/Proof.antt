@@ -54,7 +54,19 @@ chosen-requires-2 c κs = search needs
 
 returns : tie.Need-returns
 unfolding writtenAddOn
-returns c = simp ((c .chosen2 .ensures .0), (c .before .before .bit3 .ensures), (c .before .lesser .ensures), (c .before .before .before .chosen .ensures .0), (c .before .before .before .before .before .before .bit2 .ensures), (c .before .before .before .before .wide3 .ensures), (c .before .before .before .before .before .size2 .ensures), (c .before .before .before .before .before .before .before .before .before .wide .ensures), (c .before .before .before .before .before .before .before .wide2 .ensures), (c .before .before .before .before .before .before .before .before .before .before .credit-factor .ensures), (c .before .before .before .before .before .before .before .before .before .before .before .bit .ensures), (c .before .before .before .before .before .before .before .before .size .ensures)) (bounded-is (bitOf 21 (c .before .before .before .before .before .before .before .before .before .before .before .before .args .w)) (bitOf 22 (c .before .before .before .before .before .before .before .before .before .before .before .before .args .w)) (creditFactor (bitOf 20 (c .before .before .before .before .before .before .before .before .before .before .before .before .args .w)) * sizeOf (c .before .before .before .before .before .before .before .before .before .before .before .before .args .notional)) (1000 * sizeOf (c .before .before .before .before .before .before .before .before .before .before .before .before .args .premiums)))
+returns c =
+    let e = c .before .before .before .before .before .before .before .before .before .before .before .before in
+    let a = e .args in
+    let chosen = c .before .before .before .chosen in
+    let wide3 = c .before .before .before .before .wide3 in
+    let size2 = c .before .before .before .before .before .size2 in
+    let bit2 = c .before .before .before .before .before .before .bit2 in
+    let wide2 = c .before .before .before .before .before .before .before .wide2 in
+    let size = c .before .before .before .before .before .before .before .before .size in
+    let wide = c .before .before .before .before .before .before .before .before .before .wide in
+    let credit-factor = c .before .before .before .before .before .before .before .before .before .before .credit-factor in
+    let bit = c .before .before .before .before .before .before .before .before .before .before .before .bit in
+    simp ((c .chosen2 .ensures .0), (c .before .before .bit3 .ensures), (c .before .lesser .ensures), (chosen .ensures .0), (bit2 .ensures), (wide3 .ensures), (size2 .ensures), (wide .ensures), (wide2 .ensures), (credit-factor .ensures), (bit .ensures), (size .ensures)) (bounded-is (bitOf 21 (a .w)) (bitOf 22 (a .w)) (creditFactor (bitOf 20 (a .w)) * sizeOf (a .notional)) (1000 * sizeOf (a .premiums)))
 
 pub written-add-on-spec : {M : Type 1} → statement M
 written-add-on-spec =

@@ -2,30 +2,22 @@
 use native.Mathlib.Omega.{arith}
 use borrow.Author.Tests.{not-true, not-false}
 use borrow.Author.Needs.{needs}
-use Rattle.words.proofs.amount.size.Reads as size-reads
 use Rattle.financing.proofs.Causes.{odds-more, odds-principal, odds-agent}
 use Rattle.financing.proofs.faults.at_odds.Statement.{statement}
 use Rattle.financing.proofs.faults.at_odds.Tie as tie
-use Rattle.financing.proofs.faults.at_odds.Reads as reads
-use Rattle.financing.proofs.faults.at_odds.Lts as lts
 
--- src/faults.rt:77:8
 size-requires : tie.Need-size-requires
 size-requires c κs = search needs
 
--- src/faults.rt:77:22
 size-requires-2 : tie.Need-size-requires-2
 size-requires-2 c κs = search needs
 
--- src/faults.rt:77:41
 size-requires-3 : tie.Need-size-requires-3
 size-requires-3 c κs = search needs
 
--- src/faults.rt:77:22
 add-if1 : tie.Need-add-if1
 add-if1 c = search needs
 
--- src/faults.rt:78:9
 returns : tie.Need-returns
 returns c =
     let a = c .before .before .before .before .args in
@@ -35,7 +27,6 @@ returns c =
     odds-more (a .agent) (a .asset) (a .securities) (a .receivable) (a .payable) _ _ _ (size .ensures) (size2 .ensures) (size3 .ensures)
     (omega arith)
 
--- src/faults.rt:81:9
 returns-2 : tie.Need-returns-2
 returns-2 c =
     let a = c .before .before .before .before .before .args in
@@ -46,35 +37,27 @@ returns-2 c =
     odds-principal (a .agent) (a .asset) (a .securities) (a .receivable) (a .payable) _ _ _ (size .ensures) (size2 .ensures)
     (size3 .ensures) (omega arith) (not-true _ (if2 .taken))
 
--- src/faults.rt:83:5
 size-requires-4 : tie.Need-size-requires-4
 size-requires-4 c κs = search needs
 
--- src/faults.rt:83:19
 size-requires-5 : tie.Need-size-requires-5
 size-requires-5 c κs = search needs
 
--- src/faults.rt:83:5
 add-result : tie.Need-add-result
 add-result c = search needs
 
--- src/faults.rt:83:38
 size-requires-6 : tie.Need-size-requires-6
 size-requires-6 c κs = search needs
 
--- src/faults.rt:83:5
 add-result-2 : tie.Need-add-result-2
 add-result-2 c = search needs
 
--- src/faults.rt:83:57
 size-requires-7 : tie.Need-size-requires-7
 size-requires-7 c κs = search needs
 
--- src/faults.rt:83:5
 add-result-3 : tie.Need-add-result-3
 add-result-3 c = search needs
 
--- src/faults.rt:74:1
 returns-3 : tie.Need-returns-3
 returns-3 c =
     let a = c .before .before .before .before .before .before .before .before .before .args in

@@ -3,27 +3,19 @@ use borrow.Author.Tests.{not-true, not-false}
 use borrow.Author.Tests.{le-leb, lt-leb}
 use borrow.Author.Needs.{needs}
 use Rattle.rules.specs.Faults.{cause, financingSetFault}
-use Rattle.words.proofs.parts.bit.Reads as bit-reads
-use Rattle.words.proofs.parts.payload.Reads as payload-reads
 use Rattle.financing.proofs.faults.financing_set_fault.Statement.{statement}
 use Rattle.financing.proofs.faults.financing_set_fault.Tie as tie
-use Rattle.financing.proofs.faults.financing_set_fault.Reads as reads
-use Rattle.financing.proofs.faults.financing_set_fault.Lts as lts
 
--- src/faults.rt:18:8
 payload-requires : tie.Need-payload-requires
 payload-requires c κs = search needs
 
--- src/faults.rt:19:9
 returns : tie.Need-returns
 unfolding financingSetFault cause
 returns c = simp (← (c .before .payload .ensures), le-leb _ _ (c .if1 .taken))
 
--- src/faults.rt:21:9
 bit-requires : tie.Need-bit-requires
 bit-requires c κs = search needs
 
--- src/faults.rt:22:9
 returns-2 : tie.Need-returns-2
 unfolding financingSetFault cause
 returns-2 c =
@@ -33,11 +25,9 @@ returns-2 c =
     let if2 = c .if2 in
     simp (← payload .ensures, lt-leb _ _ (if1 .left), ← bit .ensures, not-true (bit .result) (if2 .taken))
 
--- src/faults.rt:24:8
 bit-requires-2 : tie.Need-bit-requires-2
 bit-requires-2 c κs = search needs
 
--- src/faults.rt:25:9
 returns-3 : tie.Need-returns-3
 unfolding financingSetFault cause
 returns-3 c =
@@ -49,7 +39,6 @@ returns-3 c =
     let if3 = c .if3 in
     simp (← payload .ensures, lt-leb _ _ (if1 .left), ← bit .ensures, not-false (bit .result) (if2 .left), ← bit2 .ensures, if3 .taken)
 
--- src/faults.rt:15:1
 returns-4 : tie.Need-returns-4
 unfolding financingSetFault cause
 returns-4 c =

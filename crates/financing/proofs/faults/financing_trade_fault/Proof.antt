@@ -3,30 +3,20 @@ use native.Mathlib.Omega.{arith}
 use borrow.Author.Tests.{le-leb, lt-leb}
 use borrow.Author.Needs.{needs}
 use Rattle.rules.specs.Faults.{cause, financingTradeFault}
-use Rattle.words.proofs.amount.size.Reads as size-reads
-use Rattle.words.proofs.parts.payload.Reads as payload-reads
 use Rattle.financing.proofs.Causes.{fallen, none-fits}
 use Rattle.financing.proofs.faults.financing_trade_fault.Statement.{statement}
 use Rattle.financing.proofs.faults.financing_trade_fault.Tie as tie
-use Rattle.financing.proofs.faults.financing_trade_fault.Reads as reads
-use Rattle.financing.proofs.faults.financing_trade_fault.Lts as lts
-use Rattle.financing.proofs.faults.at_odds.Reads as at-odds-reads
-use Rattle.financing.proofs.faults.unreadable.Reads as unreadable-reads
 
--- src/faults.rt:33:8
 payload-requires : tie.Need-payload-requires
 payload-requires c κs = search needs
 
--- src/faults.rt:34:9
 returns : tie.Need-returns
 unfolding financingTradeFault cause
 returns c = simp (← (c .before .payload .ensures), le-leb _ _ (c .if1 .taken))
 
--- src/faults.rt:36:8
 unreadable-requires : tie.Need-unreadable-requires
 unreadable-requires c κs = search needs
 
--- src/faults.rt:37:9
 returns-2 : tie.Need-returns-2
 unfolding financingTradeFault cause
 returns-2 c =
@@ -36,11 +26,9 @@ returns-2 c =
     let if2 = c .if2 in
     simp (← payload .ensures, lt-leb _ _ (if1 .left), ← unreadable .ensures, if2 .taken)
 
--- src/faults.rt:39:8
 at-odds-requires : tie.Need-at-odds-requires
 at-odds-requires c κs = search needs
 
--- src/faults.rt:40:9
 returns-3 : tie.Need-returns-3
 unfolding financingTradeFault cause
 returns-3 c =
@@ -52,11 +40,9 @@ returns-3 c =
     let if3 = c .if3 in
     simp (← payload .ensures, lt-leb _ _ (if1 .left), ← unreadable .ensures, if2 .left, ← at-odds .ensures, if3 .taken)
 
--- src/faults.rt:42:8
 size-requires : tie.Need-size-requires
 size-requires c κs = search needs
 
--- src/faults.rt:43:9
 returns-4 : tie.Need-returns-4
 returns-4 c =
     let a = c .before .before .before .before .before .before .before .before .args in
@@ -71,7 +57,6 @@ returns-4 c =
     (payload .result) (size .result) _ _ (payload .ensures) (if1 .left) (unreadable .ensures) (if2 .left) (at-odds .ensures) (if3 .left)
     (size .ensures) (omega arith)
 
--- src/faults.rt:30:1
 returns-5 : tie.Need-returns-5
 returns-5 c =
     let a = c .before .before .before .before .before .before .before .before .args in

@@ -1,25 +1,17 @@
 -- Each return is at one of the words of cause 8, in its order. Assumes nothing.
 use borrow.Author.Needs.{needs}
-use Rattle.words.proofs.amount.faulty_amount.Reads as faulty-amount-reads
-use Rattle.words.proofs.amount.faulty_days.Reads as faulty-days-reads
 use Rattle.financing.proofs.faults.unreadable.Statement.{statement}
 use Rattle.financing.proofs.faults.unreadable.Tie as tie
-use Rattle.financing.proofs.faults.unreadable.Reads as reads
-use Rattle.financing.proofs.faults.unreadable.Lts as lts
 
--- src/faults.rt:52:8
 faulty-amount-requires : tie.Need-faulty-amount-requires
 faulty-amount-requires c κs = search needs
 
--- src/faults.rt:53:9
 returns : tie.Need-returns
 returns c = simp (← (c .before .faulty-amount .ensures), (c .if1 .taken))
 
--- src/faults.rt:55:8
 faulty-amount-requires-2 : tie.Need-faulty-amount-requires-2
 faulty-amount-requires-2 c κs = search needs
 
--- src/faults.rt:56:9
 returns-2 : tie.Need-returns-2
 returns-2 c =
     let faulty-amount = c .before .before .before .faulty-amount in
@@ -28,11 +20,9 @@ returns-2 c =
     let if2 = c .if2 in
     simp (← faulty-amount .ensures, if1 .left, ← faulty-amount2 .ensures, if2 .taken)
 
--- src/faults.rt:58:8
 faulty-amount-requires-3 : tie.Need-faulty-amount-requires-3
 faulty-amount-requires-3 c κs = search needs
 
--- src/faults.rt:59:9
 returns-3 : tie.Need-returns-3
 returns-3 c =
     let faulty-amount = c .before .before .before .before .before .faulty-amount in
@@ -43,11 +33,9 @@ returns-3 c =
     let if3 = c .if3 in
     simp (← faulty-amount .ensures, if1 .left, ← faulty-amount2 .ensures, if2 .left, ← faulty-amount3 .ensures, if3 .taken)
 
--- src/faults.rt:61:8
 faulty-amount-requires-4 : tie.Need-faulty-amount-requires-4
 faulty-amount-requires-4 c κs = search needs
 
--- src/faults.rt:62:9
 returns-4 : tie.Need-returns-4
 returns-4 c =
     let faulty-amount = c .before .before .before .before .before .before .before .faulty-amount in
@@ -69,11 +57,9 @@ returns-4 c =
       if4 .taken,
     )
 
--- src/faults.rt:64:8
 faulty-amount-requires-5 : tie.Need-faulty-amount-requires-5
 faulty-amount-requires-5 c κs = search needs
 
--- src/faults.rt:65:9
 returns-5 : tie.Need-returns-5
 returns-5 c =
     let faulty-amount = c .before .before .before .before .before .before .before .before .before .faulty-amount in
@@ -99,11 +85,9 @@ returns-5 c =
       if5 .taken,
     )
 
--- src/faults.rt:67:8
 faulty-amount-requires-6 : tie.Need-faulty-amount-requires-6
 faulty-amount-requires-6 c κs = search needs
 
--- src/faults.rt:68:9
 returns-6 : tie.Need-returns-6
 returns-6 c =
     let faulty-amount = c .before .before .before .before .before .before .before .before .before .before .before .faulty-amount in
@@ -133,11 +117,9 @@ returns-6 c =
       if6 .taken,
     )
 
--- src/faults.rt:70:5
 faulty-days-requires : tie.Need-faulty-days-requires
 faulty-days-requires c κs = search needs
 
--- src/faults.rt:49:1
 returns-7 : tie.Need-returns-7
 returns-7 c =
     let faulty-amount = c .before .before .before .before .before .before .before .before .before .before .before .before .faulty-amount in

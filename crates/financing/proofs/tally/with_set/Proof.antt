@@ -1,26 +1,17 @@
 -- E* is at most the value lent, and so the sums fit. Assumes nothing.
 use native.Mathlib.Omega.{arith}
 use borrow.Author.Needs.{needs}
-use Rattle.words.proofs.parts.bit.Reads as bit-reads
 use Rattle.financing.proofs.SetSteps.{excess-most}
 use Rattle.financing.specs.Weighing.{plusSet}
 use Rattle.financing.proofs.tally.with_set.Statement.{statement}
 use Rattle.financing.proofs.tally.with_set.Tie as tie
-use Rattle.financing.proofs.tally.with_set.Reads as reads
-use Rattle.financing.proofs.tally.with_set.Lts as lts
-use Rattle.words.proofs.numbers.chosen.Reads as chosen-reads
-use Rattle.financing.proofs.tally.FinancingTally.excess.Reads as excess-reads
-use Rattle.financing.proofs.tally.FinancingTally.netted.Reads as netted-reads
 
--- src/tally.rt:90:34
 bit-requires : tie.Need-bit-requires
 bit-requires c κs = search needs
 
--- src/tally.rt:90:25
 excess-requires : tie.Need-excess-requires
 excess-requires c κs = search needs
 
--- src/tally.rt:90:18
 mul-excess : tie.Need-mul-excess
 mul-excess c =
     let a = c .before .before .args in
@@ -29,39 +20,30 @@ mul-excess c =
     let excess = c .excess in
     omega (arith, excess-most (bit .result) (a .t) (p .1 .excess), excess .ensures, p .1 .lent)
 
--- src/tally.rt:91:16
 mul-lent : tie.Need-mul-lent
 mul-lent c = search needs
 
--- src/tally.rt:92:9
 bit-requires-2 : tie.Need-bit-requires-2
 bit-requires-2 c κs = search needs
 
--- src/tally.rt:93:31
 mul-s : tie.Need-mul-s
 mul-s c = search needs
 
--- src/tally.rt:93:18
 add-s : tie.Need-add-s
 add-s c = search needs
 
--- src/tally.rt:94:34
 netted-requires : tie.Need-netted-requires
 netted-requires c κs = search needs
 
--- src/tally.rt:94:27
 mul-s-2 : tie.Need-mul-s-2
 mul-s-2 c = search needs
 
--- src/tally.rt:94:16
 add-s-2 : tie.Need-add-s-2
 add-s-2 c = search needs
 
--- src/tally.rt:95:33
 chosen-requires : tie.Need-chosen-requires
 chosen-requires c κs = search needs
 
--- src/tally.rt:95:19
 add-s-3 : tie.Need-add-s-3
 add-s-3 c =
     let a = c .before .before .before .before .before .before .before .before .before .before .args in
@@ -76,19 +58,15 @@ add-s-3 c =
       p .0 .principal,
     )
 
--- src/tally.rt:96:26
 chosen-requires-2 : tie.Need-chosen-requires-2
 chosen-requires-2 c κs = search needs
 
--- src/tally.rt:96:60
 bit-requires-3 : tie.Need-bit-requires-3
 bit-requires-3 c κs = search needs
 
--- src/tally.rt:96:53
 chosen-requires-3 : tie.Need-chosen-requires-3
 chosen-requires-3 c κs = search needs
 
--- src/tally.rt:96:26
 add-s-4 : tie.Need-add-s-4
 add-s-4 c =
     let a = c .before .before .before .before .before .before .before .before .before .before .before .before .before .args in
@@ -102,7 +80,6 @@ add-s-4 c =
       p .1 .lent,
     )
 
--- src/tally.rt:96:15
 add-s-5 : tie.Need-add-s-5
 add-s-5 c =
     let a = c .before .before .before .before .before .before .before .before .before .before .before .before .before .before .args in
@@ -117,7 +94,6 @@ add-s-5 c =
       p .0 .agent,
     )
 
--- src/tally.rt:86:1
 returns : tie.Need-returns
 unfolding plusSet
 returns c =

@@ -2,41 +2,30 @@
 use native.Mathlib.Omega.{arith}
 use borrow.Author.Needs.{needs}
 use Rattle.records.proofs.Words.{room}
-use Rattle.records.proofs.presence.lacking.Reads as lacking-reads
 use Rattle.financing.proofs.Causes.{fault-lacking, fault-own}
 use Rattle.financing.proofs.trades.trade_fault.Statement.{statement}
 use Rattle.financing.proofs.trades.trade_fault.Tie as tie
-use Rattle.financing.proofs.trades.trade_fault.Reads as reads
-use Rattle.financing.proofs.trades.trade_fault.Lts as lts
-use Rattle.financing.proofs.faults.financing_trade_fault.Reads as financing-trade-fault-reads
 
--- src/trades.rt:46:8
 lacking-requires : tie.Need-lacking-requires
 lacking-requires c κs = search needs
 
--- src/trades.rt:47:9
 returns : tie.Need-returns
 returns c =
     let a = c .before .before .before .args in
     fault-lacking (a .agent) (a .last-days) (a .part .now) (a .at) _ (c .before .lacking .ensures) (c .if1 .taken)
 
--- src/trades.rt:49:45
 mul-financing-trade-fault : tie.Need-mul-financing-trade-fault
 mul-financing-trade-fault c = search needs
 
--- src/trades.rt:49:45
 shared-slice-read-financing-trade-fault : tie.Need-shared-slice-read-financing-trade-fault
 shared-slice-read-financing-trade-fault c = search needs
 
--- src/trades.rt:49:60
 add-financing-trade-fault : tie.Need-add-financing-trade-fault
 add-financing-trade-fault c = search needs
 
--- src/trades.rt:49:55
 mul-financing-trade-fault-2 : tie.Need-mul-financing-trade-fault-2
 mul-financing-trade-fault-2 c = search needs
 
--- src/trades.rt:49:55
 shared-slice-read-financing-trade-fault-2 : tie.Need-shared-slice-read-financing-trade-fault-2
 shared-slice-read-financing-trade-fault-2 c =
     let p = c .before .before .before .before .before .pre in
@@ -44,15 +33,12 @@ shared-slice-read-financing-trade-fault-2 c =
     let if1 = c .before .before .if1 in
     room 7 1 _ _ _ (lacking .ensures) (if1 .left) (p .0) (omega arith)
 
--- src/trades.rt:49:74
 add-financing-trade-fault-2 : tie.Need-add-financing-trade-fault-2
 add-financing-trade-fault-2 c = search needs
 
--- src/trades.rt:49:69
 mul-financing-trade-fault-3 : tie.Need-mul-financing-trade-fault-3
 mul-financing-trade-fault-3 c = search needs
 
--- src/trades.rt:49:69
 shared-slice-read-financing-trade-fault-3 : tie.Need-shared-slice-read-financing-trade-fault-3
 shared-slice-read-financing-trade-fault-3 c =
     let p = c .before .before .before .before .before .before .pre in
@@ -60,15 +46,12 @@ shared-slice-read-financing-trade-fault-3 c =
     let if1 = c .before .before .before .if1 in
     room 7 2 _ _ _ (lacking .ensures) (if1 .left) (p .0) (omega arith)
 
--- src/trades.rt:49:88
 add-financing-trade-fault-3 : tie.Need-add-financing-trade-fault-3
 add-financing-trade-fault-3 c = search needs
 
--- src/trades.rt:49:83
 mul-financing-trade-fault-4 : tie.Need-mul-financing-trade-fault-4
 mul-financing-trade-fault-4 c = search needs
 
--- src/trades.rt:49:83
 shared-slice-read-financing-trade-fault-4 : tie.Need-shared-slice-read-financing-trade-fault-4
 shared-slice-read-financing-trade-fault-4 c =
     let p = c .before .before .before .before .before .before .before .pre in
@@ -76,15 +59,12 @@ shared-slice-read-financing-trade-fault-4 c =
     let if1 = c .before .before .before .before .if1 in
     room 7 3 _ _ _ (lacking .ensures) (if1 .left) (p .0) (omega arith)
 
--- src/trades.rt:49:102
 add-financing-trade-fault-4 : tie.Need-add-financing-trade-fault-4
 add-financing-trade-fault-4 c = search needs
 
--- src/trades.rt:49:97
 mul-financing-trade-fault-5 : tie.Need-mul-financing-trade-fault-5
 mul-financing-trade-fault-5 c = search needs
 
--- src/trades.rt:49:97
 shared-slice-read-financing-trade-fault-5 : tie.Need-shared-slice-read-financing-trade-fault-5
 shared-slice-read-financing-trade-fault-5 c =
     let p = c .before .before .before .before .before .before .before .before .pre in
@@ -92,15 +72,12 @@ shared-slice-read-financing-trade-fault-5 c =
     let if1 = c .before .before .before .before .before .if1 in
     room 7 4 _ _ _ (lacking .ensures) (if1 .left) (p .0) (omega arith)
 
--- src/trades.rt:49:116
 add-financing-trade-fault-5 : tie.Need-add-financing-trade-fault-5
 add-financing-trade-fault-5 c = search needs
 
--- src/trades.rt:49:111
 mul-financing-trade-fault-6 : tie.Need-mul-financing-trade-fault-6
 mul-financing-trade-fault-6 c = search needs
 
--- src/trades.rt:49:111
 shared-slice-read-financing-trade-fault-6 : tie.Need-shared-slice-read-financing-trade-fault-6
 shared-slice-read-financing-trade-fault-6 c =
     let p = c .before .before .before .before .before .before .before .before .before .pre in
@@ -108,15 +85,12 @@ shared-slice-read-financing-trade-fault-6 c =
     let if1 = c .before .before .before .before .before .before .if1 in
     room 7 5 _ _ _ (lacking .ensures) (if1 .left) (p .0) (omega arith)
 
--- src/trades.rt:49:130
 add-financing-trade-fault-6 : tie.Need-add-financing-trade-fault-6
 add-financing-trade-fault-6 c = search needs
 
--- src/trades.rt:49:125
 mul-financing-trade-fault-7 : tie.Need-mul-financing-trade-fault-7
 mul-financing-trade-fault-7 c = search needs
 
--- src/trades.rt:49:125
 shared-slice-read-financing-trade-fault-7 : tie.Need-shared-slice-read-financing-trade-fault-7
 shared-slice-read-financing-trade-fault-7 c =
     let p = c .before .before .before .before .before .before .before .before .before .before .pre in
@@ -124,15 +98,12 @@ shared-slice-read-financing-trade-fault-7 c =
     let if1 = c .before .before .before .before .before .before .before .if1 in
     room 7 6 _ _ _ (lacking .ensures) (if1 .left) (p .0) (omega arith)
 
--- src/trades.rt:49:144
 add-financing-trade-fault-7 : tie.Need-add-financing-trade-fault-7
 add-financing-trade-fault-7 c = search needs
 
--- src/trades.rt:49:139
 mul-financing-trade-fault-8 : tie.Need-mul-financing-trade-fault-8
 mul-financing-trade-fault-8 c = search needs
 
--- src/trades.rt:49:139
 shared-slice-read-financing-trade-fault-8 : tie.Need-shared-slice-read-financing-trade-fault-8
 shared-slice-read-financing-trade-fault-8 c =
     let p = c .before .before .before .before .before .before .before .before .before .before .before .pre in
@@ -140,11 +111,9 @@ shared-slice-read-financing-trade-fault-8 c =
     let if1 = c .before .before .before .before .before .before .before .before .if1 in
     room 7 7 _ _ _ (lacking .ensures) (if1 .left) (p .0) (omega arith)
 
--- src/trades.rt:49:5
 financing-trade-fault-requires : tie.Need-financing-trade-fault-requires
 financing-trade-fault-requires c κs = search needs
 
--- src/trades.rt:42:1
 returns-2 : tie.Need-returns-2
 returns-2 c =
     let a = c .before .before .before .before .before .before .before .before .before .before .before .before .args in

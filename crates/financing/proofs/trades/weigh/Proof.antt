@@ -5,16 +5,9 @@ use native.Mathlib.Omega.{arith}
 use lib.ListN.{length}
 use borrow.Author.Needs.{needs}
 use Rattle.rules.specs.Word.{word, bitOf}
-use Rattle.words.proofs.parts.bit.Reads as bit-reads
-use Rattle.records.proofs.presence.standing.Reads as standing-reads
 use Rattle.financing.proofs.TradeLoop.{AtTrade, at-first, tally-room, trades-over, trade-there, trade-stop, trade-room, trade-next}
 use Rattle.financing.proofs.trades.weigh.Statement.{statement}
 use Rattle.financing.proofs.trades.weigh.Tie as tie
-use Rattle.financing.proofs.trades.weigh.Reads as reads
-use Rattle.financing.proofs.trades.weigh.Lts as lts
-use Rattle.financing.proofs.tally.FinancingTally.none.Reads as none-reads
-use Rattle.financing.proofs.trades.trade_fault.Reads as trade-fault-reads
-use Rattle.financing.proofs.trades.with_trade.Reads as with-trade-reads
 
 abbrev Inv-loop : tie.InvT-loop
 Inv-loop part agent t₀ at₀ t at = (agent ≡ bitOf 1 (word part 0)) × AtTrade part t at
@@ -22,19 +15,15 @@ Inv-loop part agent t₀ at₀ t at = (agent ≡ bitOf 1 (word part 0)) × AtTra
 abbrev μ-loop : tie.MeasureT-loop
 μ-loop part agent t₀ at₀ t at = length part - at
 
--- src/trades.rt:27:21
 shared-slice-read-bit : tie.Need-shared-slice-read-bit Inv-loop μ-loop
 shared-slice-read-bit c = (c .before .before .pre .0 .some-word)
 
--- src/trades.rt:27:9
 bit-requires : tie.Need-bit-requires Inv-loop μ-loop
 bit-requires c κs = search needs
 
--- src/trades.rt:28:9
 none-requires : tie.Need-none-requires Inv-loop μ-loop
 none-requires c κs = search needs
 
--- src/trades.rt:30:5
 loop-holds : tie.Need-loop-holds Inv-loop μ-loop
 loop-holds c =
     let p = c .before .before .before .before .pre in
@@ -42,11 +31,9 @@ loop-holds c =
     let none = c .none in
     ((bit .ensures), at-first _ _ (p .0 .some-word) (p .1) (none .ensures))
 
--- src/trades.rt:30:11
 standing-requires : tie.Need-standing-requires Inv-loop μ-loop
 standing-requires c κs = search needs
 
--- src/trades.rt:31:13
 trade-fault-requires : tie.Need-trade-fault-requires Inv-loop μ-loop
 trade-fault-requires c κs =
     let p = c .before .before .before .before .before .before .before .pre in
@@ -55,7 +42,6 @@ trade-fault-requires c κs =
     let if1 = c .if1 in
     (trade-there _ _ _ (loop .inv .1) _ (standing .ensures) (if1 .taken), (p .0 .short))
 
--- src/trades.rt:33:13
 returns : tie.Need-returns Inv-loop μ-loop
 returns c =
     let loop = c .before .before .before .before .loop in
@@ -65,7 +51,6 @@ returns c =
     let if2 = c .if2 in
     trade-stop _ _ _ (loop .inv .1) _ (standing .ensures) (if1 .taken) _ (loop .inv .0) _ (trade-fault .ensures) (if2 .taken)
 
--- src/trades.rt:35:9
 with-trade-requires : tie.Need-with-trade-requires Inv-loop μ-loop
 with-trade-requires c κs =
     let p = c .before .before .before .before .before .before .before .before .before .pre in
@@ -78,7 +63,6 @@ with-trade-requires c κs =
       ((p .0 .short), tally-room _ _ _ (loop .inv .1) (p .0 .short)),
     )
 
--- src/trades.rt:36:9
 add-at : tie.Need-add-at Inv-loop μ-loop
 add-at c =
     let p = c .before .before .before .before .before .before .before .before .before .before .pre in
@@ -93,7 +77,6 @@ add-at c =
       p .0 .short,
     )
 
--- src/trades.rt:30:5
 loop-less : tie.Need-loop-less Inv-loop μ-loop
 loop-less c =
     let loop = c .before .before .before .before .before .loop in
@@ -103,7 +86,6 @@ loop-less c =
     let if2 = c .before .if2 in
     omega (arith, trade-room _ _ _ (loop .inv .1) _ (standing .ensures) (if1 .taken) _ (loop .inv .0) _ (trade-fault .ensures) (if2 .left))
 
--- src/trades.rt:30:5
 loop-again : tie.Need-loop-again Inv-loop μ-loop
 loop-again c =
     let loop = c .before .before .before .before .before .loop in
@@ -116,7 +98,6 @@ loop-again c =
       trade-next _ _ _ (loop .inv .1) _ (standing .ensures) (if1 .taken) _ (loop .inv .0) _ (trade-fault .ensures) (if2 .left) _ (with-trade .ensures),
     )
 
--- src/trades.rt:23:1
 returns-2 : tie.Need-returns-2 Inv-loop μ-loop
 returns-2 c = trades-over _ _ _ (c .before .before .loop .inv .1) _ (c .before .standing .ensures) (c .if1 .left)
 

@@ -6,28 +6,20 @@ use Rattle.leverage.proofs.CaseLaws.{no-word}
 use borrow.Author.Needs.{needs}
 use Rattle.leverage.proofs.early.protections_of.Statement.{statement}
 use Rattle.leverage.proofs.early.protections_of.Tie as tie
-use Rattle.leverage.proofs.early.protections_of.Reads as reads
-use Rattle.leverage.proofs.early.protections_of.Lts as lts
-use Rattle.words.proofs.parts.payload.Reads as payload-reads
 
--- src/early.rt:16:9
 returns : tie.Need-returns
 unfolding headOf
 returns c = sym (ap payloadOf (no-word (c .before .before .args .book .now) 0 (omega arith)))
 
--- src/early.rt:18:13
 shared-slice-read-payload : tie.Need-shared-slice-read-payload
 shared-slice-read-payload c = search needs
 
--- src/early.rt:18:5
 payload-requires : tie.Need-payload-requires
 payload-requires c κs = search needs
 
--- src/early.rt:18:5
 cast-result : tie.Need-cast-result
 cast-result c = search needs
 
--- src/early.rt:12:1
 returns-2 : tie.Need-returns-2
 unfolding headOf
 returns-2 c = c .payload .ensures

@@ -6,28 +6,20 @@ use Rattle.leverage.proofs.CaseLaws.{no-word}
 use borrow.Author.Needs.{needs}
 use Rattle.leverage.proofs.early.tier1_loss.Statement.{statement}
 use Rattle.leverage.proofs.early.tier1_loss.Tie as tie
-use Rattle.leverage.proofs.early.tier1_loss.Reads as reads
-use Rattle.leverage.proofs.early.tier1_loss.Lts as lts
-use Rattle.words.proofs.amount.loss.Reads as loss-reads
 
--- src/early.rt:51:9
 loss-requires : tie.Need-loss-requires
 loss-requires c κs = search needs
 
--- src/early.rt:51:9
 returns : tie.Need-returns
 unfolding headOf
 returns c = c .loss .ensures ∙ sym (ap lossOf (no-word (c .before .before .before .args .book .now) 1 (omega arith)))
 
--- src/early.rt:53:10
 shared-slice-read-loss : tie.Need-shared-slice-read-loss
 shared-slice-read-loss c = search needs
 
--- src/early.rt:53:5
 loss-requires-2 : tie.Need-loss-requires-2
 loss-requires-2 c κs = search needs
 
--- src/early.rt:47:1
 returns-2 : tie.Need-returns-2
 unfolding headOf
 returns-2 c = c .loss2 .ensures

@@ -2,50 +2,37 @@ use Rattle.leverage.proofs.PackLaws.{packs-refused, packs-accepted}
 use borrow.Author.Needs.{needs}
 use Rattle.leverage.proofs.export.pack.Statement.{statement}
 use Rattle.leverage.proofs.export.pack.Tie as tie
-use Rattle.leverage.proofs.export.pack.Reads as reads
-use Rattle.leverage.proofs.export.pack.Lts as lts
 
--- src/export.rt:14:25
 enum-known-a : tie.Need-enum-known-a
 enum-known-a c = search needs
 
--- src/export.rt:14:43
 cast-result : tie.Need-cast-result
 cast-result c = search needs
 
--- src/export.rt:15:15
 mul-result : tie.Need-mul-result
 mul-result c = search needs
 
--- src/export.rt:14:43
 add-result : tie.Need-add-result
 add-result c = search needs
 
--- src/export.rt:16:15
 mul-result-2 : tie.Need-mul-result-2
 mul-result-2 c = search needs
 
--- src/export.rt:14:43
 add-result-2 : tie.Need-add-result-2
 add-result-2 c = search needs
 
--- src/export.rt:17:26
 enum-known-a-2 : tie.Need-enum-known-a-2
 enum-known-a-2 c = search needs
 
--- src/export.rt:17:45
 cast-result-2 : tie.Need-cast-result-2
 cast-result-2 c = search needs
 
--- src/export.rt:17:38
 mul-result-3 : tie.Need-mul-result-3
 mul-result-3 c = search needs
 
--- src/export.rt:10:1
 returns : tie.Need-returns
 returns c = packs-refused (c .before .before .before .args .a) (c .before .a .given .0 .0) (c .before .a .given .0 .1 .0) (c .before .a .given .1)
 
--- src/export.rt:10:1
 returns-2 : tie.Need-returns-2
 returns-2 c = packs-accepted (c .before .before .before .args .a) (c .before .a2 .given .0 .0) (c .before .a2 .given .1)
 

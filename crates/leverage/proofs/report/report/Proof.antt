@@ -2,41 +2,36 @@ use Rattle.leverage.proofs.CaseLaws.{to-early, to-within, to-admitted, 
 use borrow.Author.Needs.{needs}
 use Rattle.leverage.proofs.report.report.Statement.{statement}
 use Rattle.leverage.proofs.report.report.Tie as tie
-use Rattle.leverage.proofs.report.report.Reads as reads
-use Rattle.leverage.proofs.report.report.Lts as lts
-use Rattle.leverage.proofs.report.publish.Reads as publish-reads
 
--- src/report.rt:40:26
 enum-known-a : tie.Need-enum-known-a
 enum-known-a c = search needs
 
--- src/report.rt:41:27
 enum-known-a-2 : tie.Need-enum-known-a-2
 enum-known-a-2 c = search needs
 
--- src/report.rt:42:29
 enum-known-a-3 : tie.Need-enum-known-a-3
 enum-known-a-3 c = search needs
 
--- src/report.rt:42:55
 publish-requires : tie.Need-publish-requires
-publish-requires c κs = ((c .before .before .before .before .before .pre .0), small-admitted (c .before .before .before .before .before .args .a) ((c .before .before .a3 .given .0 .0)) ((c .before .before .a3 .given .1)) ((c .before .before .before .before .before .pre .1)))
+publish-requires c κs =
+    let e = c .before .before .before .before .before in
+    let a3 = c .before .before .a3 in
+    ((e .pre .0), small-admitted (e .args .a) (a3 .given .0 .0) (a3 .given .1) (e .pre .1))
 
--- src/report.rt:35:1
 returns : tie.Need-returns
 returns c = to-early _ _ (c .before .before .before .before .args .a) ((c .before .a .given .0 .0)) ((c .before .a .given .1))
 
--- src/report.rt:35:1
 returns-2 : tie.Need-returns-2
 returns-2 c = to-within _ _ (c .before .before .before .before .args .a) ((c .before .a2 .given .0 .0)) ((c .before .a2 .given .0 .1 .0)) ((c .before .a2 .given .1))
 
--- src/report.rt:35:1
 same-length : tie.Need-same-length
 same-length c = search needs
 
--- src/report.rt:35:1
 returns-3 : tie.Need-returns-3
-returns-3 c = to-admitted _ _ (c .before .before .before .before .before .before .before .args .a) ((c .before .before .before .before .a3 .given .0 .0)) ((c .before .before .before .before .a3 .given .1)) (c .before .publish .result) _ ((c .before .publish .ensures .0)) ((c .before .publish .ensures .1))
+returns-3 c =
+    let e = c .before .before .before .before .before .before .before in
+    let a3 = c .before .before .before .before .a3 in
+    to-admitted _ _ (e .args .a) (a3 .given .0 .0) (a3 .given .1) (c .before .publish .result) _ (c .before .publish .ensures .0) (c .before .publish .ensures .1)
 
 pub report-spec : {M : Type 1} → statement M
 report-spec =

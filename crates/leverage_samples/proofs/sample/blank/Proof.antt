@@ -4,8 +4,6 @@ use lib.ListN.{length, length-set}
 use borrow.Author.Needs.{needs}
 use Rattle.leverage_samples.proofs.sample.blank.Statement.{statement}
 use Rattle.leverage_samples.proofs.sample.blank.Tie as tie
-use Rattle.leverage_samples.proofs.sample.blank.Reads as reads
-use Rattle.leverage_samples.proofs.sample.blank.Lts as lts
 
 abbrev Inv-loop : tie.InvT-loop
 Inv-loop words₀ start end i₀ words i = length words ≡ length words₀
@@ -13,35 +11,27 @@ Inv-loop words₀ start end i₀ words i = length words ≡ length words₀
 abbrev μ-loop : tie.MeasureT-loop
 μ-loop words₀ start end i₀ words i = end - i
 
--- src/sample.rt:35:5
 loop-holds : tie.Need-loop-holds Inv-loop μ-loop
 loop-holds c = refl
 
--- src/sample.rt:36:9
 mul-words : tie.Need-mul-words Inv-loop μ-loop
 mul-words c = search needs
 
--- src/sample.rt:36:9
 slice-write-words : tie.Need-slice-write-words Inv-loop μ-loop
 slice-write-words c = search needs
 
--- src/sample.rt:37:9
 add-i : tie.Need-add-i Inv-loop μ-loop
 add-i c = search needs
 
--- src/sample.rt:35:5
 loop-less : tie.Need-loop-less Inv-loop μ-loop
 loop-less c = search needs
 
--- src/sample.rt:35:5
 loop-again : tie.Need-loop-again Inv-loop μ-loop
 loop-again c = simp length-set (c .before .loop .inv)
 
--- src/sample.rt:31:1
 same-length : tie.Need-same-length Inv-loop μ-loop
 same-length c = search needs
 
--- src/sample.rt:31:1
 returns : tie.Need-returns Inv-loop μ-loop
 returns c = search needs
 

@@ -4,27 +4,19 @@ use native.Mathlib.Omega.{arith}
 use borrow.Author.Needs.{needs}
 use Rattle.leverage_samples.proofs.sample.fetch.Statement.{statement}
 use Rattle.leverage_samples.proofs.sample.fetch.Tie as tie
-use Rattle.leverage_samples.proofs.sample.fetch.Reads as reads
-use Rattle.leverage_samples.proofs.sample.fetch.Lts as lts
-use Rattle.io.proofs.read_full.Reads as read-full-reads
 
--- src/sample.rt:28:23
 slice-relend-prefix-read-full : tie.Need-slice-relend-prefix-read-full
 slice-relend-prefix-read-full c = search needs
 
--- src/sample.rt:28:23
 slice-aggregate-read-full : tie.Need-slice-aggregate-read-full
 slice-aggregate-read-full c = sym (length-take-le (c .before .before .args .n) (c .before .before .args .bytes .now) (omega arith))
 
--- src/sample.rt:28:5
 read-full-requires : tie.Need-read-full-requires
 read-full-requires c κs = search needs
 
--- src/sample.rt:25:1
 same-length : tie.Need-same-length
 same-length c = search needs
 
--- src/sample.rt:25:1
 returns : tie.Need-returns
 returns c = search needs
 

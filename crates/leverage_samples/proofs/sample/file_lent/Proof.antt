@@ -5,36 +5,25 @@ use native.Mathlib.Omega.{arith}
 use borrow.Author.Needs.{needs}
 use Rattle.leverage_samples.proofs.sample.file_lent.Statement.{statement}
 use Rattle.leverage_samples.proofs.sample.file_lent.Tie as tie
-use Rattle.leverage_samples.proofs.sample.file_lent.Reads as reads
-use Rattle.leverage_samples.proofs.sample.file_lent.Lts as lts
-use Rattle.leverage.proofs.alone.file_alone.Reads as file-alone-reads
-use Rattle.leverage_samples.proofs.lines.print_line.Reads as print-line-reads
 
--- src/sample.rt:57:24
 slice-aggregate-file-alone : tie.Need-slice-aggregate-file-alone
 slice-aggregate-file-alone c = sym (length-take-le (c .before .before .args .count) (now (c .before .before .args .words)) (omega arith))
 
--- src/sample.rt:57:41
 slice-relend-prefix-file-alone : tie.Need-slice-relend-prefix-file-alone
 slice-relend-prefix-file-alone c = search needs
 
--- src/sample.rt:57:41
 slice-aggregate-file-alone-2 : tie.Need-slice-aggregate-file-alone-2
 slice-aggregate-file-alone-2 c = sym (length-take-le (c .before .before .before .args .lent) (c .before .before .before .args .rows .now) (omega arith))
 
--- src/sample.rt:57:9
 file-alone-requires : tie.Need-file-alone-requires
 file-alone-requires c κs = search needs
 
--- src/sample.rt:58:5
 print-line-requires : tie.Need-print-line-requires
 print-line-requires c κs = search needs
 
--- src/sample.rt:54:1
 same-length : tie.Need-same-length
 same-length c = search needs
 
--- src/sample.rt:54:1
 returns : tie.Need-returns
 returns c = search needs
 

@@ -5,34 +5,22 @@ use native.Mathlib.Omega.{arith}
 use borrow.Author.Needs.{needs}
 use Rattle.leverage_samples.proofs.sample.file_next.Statement.{statement}
 use Rattle.leverage_samples.proofs.sample.file_next.Tie as tie
-use Rattle.leverage_samples.proofs.sample.file_next.Reads as reads
-use Rattle.leverage_samples.proofs.sample.file_next.Lts as lts
-use Rattle.io.proofs.read_full.Reads as read-full-reads
-use Rattle.leverage_samples.proofs.sample.file_lent.Reads as file-lent-reads
-use Rattle.leverage_samples.proofs.sample.heading_of.Reads as heading-of-reads
-use Rattle.leverage_samples.proofs.sample.load.Reads as load-reads
 
--- src/sample.rt:64:26
 slice-aggregate-read-full : tie.Need-slice-aggregate-read-full
 slice-aggregate-read-full c = search needs
 
--- src/sample.rt:64:8
 read-full-requires : tie.Need-read-full-requires
 read-full-requires c κs = search needs
 
--- src/sample.rt:65:9
 returns : tie.Need-returns
 returns c = search needs
 
--- src/sample.rt:67:9
 heading-of-requires : tie.Need-heading-of-requires
 heading-of-requires c κs = search needs
 
--- src/sample.rt:72:9
 returns-2 : tie.Need-returns-2
 returns-2 c = search needs
 
--- src/sample.rt:74:9
 load-requires : tie.Need-load-requires
 load-requires c κs =
     let r = c .before .before .before .before .before .before .heading-of .result in
@@ -41,19 +29,15 @@ load-requires c κs =
     let bytes : 4 * r .stored ≤ length (c .before .before .before .before .before .before .before .before .before .before .before .before .before .args .bytes .now) = omega (arith, ltb-false (length (c .before .before .before .before .before .before .before .before .before .before .before .before .before .args .bytes .now) / 4) (r .stored) (c .before .before .if5 .left)) in
     (words, (stored, bytes))
 
--- src/sample.rt:75:9
 same-length : tie.Need-same-length
 same-length c = search needs
 
--- src/sample.rt:75:9
 same-length-2 : tie.Need-same-length-2
 same-length-2 c = search needs
 
--- src/sample.rt:75:9
 returns-3 : tie.Need-returns-3
 returns-3 c = search needs
 
--- src/sample.rt:77:5
 file-lent-requires : tie.Need-file-lent-requires
 file-lent-requires c κs =
     let r = c .before .before .before .before .before .before .before .before .before .before .before .before .before .before .heading-of .result in
@@ -61,19 +45,15 @@ file-lent-requires c κs =
     let rows : r .rows ≤ length (c .before .before .before .before .before .before .before .before .before .before .before .before .before .before .before .before .before .before .before .before .before .args .rows .now) = c .before .before .before .before .before .before .before .before .before .before .before .before .before .if2 .left in
     (words, rows)
 
--- src/sample.rt:62:1
 same-length-3 : tie.Need-same-length-3
 same-length-3 c = search needs
 
--- src/sample.rt:62:1
 same-length-4 : tie.Need-same-length-4
 same-length-4 c = search needs
 
--- src/sample.rt:62:1
 same-length-5 : tie.Need-same-length-5
 same-length-5 c = search needs
 
--- src/sample.rt:62:1
 returns-4 : tie.Need-returns-4
 returns-4 c = search needs
 

@@ -2,10 +2,7 @@ use mathlib.Core.Path.{refl}
 use Rattle.rules.specs.Read.{headOf}
 use Rattle.reading.proofs.head.bands_of.Statement.{statement}
 use Rattle.reading.proofs.head.bands_of.Tie as tie
-use Rattle.reading.proofs.head.bands_of.Reads as reads
-use Rattle.reading.proofs.head.bands_of.Lts as lts
 
--- src/head.rt:32:1
 returns : tie.Need-returns
 unfolding headOf
 returns c = refl

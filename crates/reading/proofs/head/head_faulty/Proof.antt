@@ -4,60 +4,50 @@ use Rattle.rules.proofs.Lists.{or-true}
 use borrow.Author.Needs.{needs}
 use Rattle.reading.proofs.head.head_faulty.Statement.{statement}
 use Rattle.reading.proofs.head.head_faulty.Tie as tie
-use Rattle.reading.proofs.head.head_faulty.Reads as reads
-use Rattle.reading.proofs.head.head_faulty.Lts as lts
-use Rattle.words.proofs.amount.minus_zero.Reads as minus-zero-reads
-use Rattle.words.proofs.parts.kind.Reads as kind-reads
-use Rattle.words.proofs.parts.payload.Reads as payload-reads
 
--- src/head.rt:15:9
 returns : tie.Need-returns
 unfolding headFaulty
 returns c = simp (lt-ltb _ _ (c .if1 .taken))
 
--- src/head.rt:17:16
 shared-slice-read-head : tie.Need-shared-slice-read-head
 shared-slice-read-head c = search needs
 
--- src/head.rt:18:8
 kind-requires : tie.Need-kind-requires
 kind-requires c κs = search needs
 
--- src/head.rt:19:9
 returns-2 : tie.Need-returns-2
 unfolding headFaulty
 returns-2 c = simp (← (c .before .kind .ensures), ne-eqb _ _ (c .if2 .taken), or-true)
 
--- src/head.rt:21:8
 payload-requires : tie.Need-payload-requires
 payload-requires c κs = search needs
 
--- src/head.rt:22:9
 returns-3 : tie.Need-returns-3
 unfolding headFaulty
 returns-3 c = simp (← (c .before .payload .ensures), lt-ltb 4096 _ (c .if3 .taken), or-true)
 
--- src/head.rt:24:17
 shared-slice-read-tier1 : tie.Need-shared-slice-read-tier1
 shared-slice-read-tier1 c = search needs
 
--- src/head.rt:25:8
 kind-requires-2 : tie.Need-kind-requires-2
 kind-requires-2 c κs = search needs
 
--- src/head.rt:26:9
 returns-4 : tie.Need-returns-4
 unfolding headFaulty
 returns-4 c = simp (← (c .before .kind2 .ensures), ne-eqb _ _ (c .if4 .taken), or-true)
 
--- src/head.rt:28:5
 minus-zero-requires : tie.Need-minus-zero-requires
 minus-zero-requires c κs = search needs
 
--- src/head.rt:11:1
 returns-5 : tie.Need-returns-5
 unfolding headFaulty
-returns-5 c = simp (le-ltb _ _ (c .before .before .before .before .before .before .before .before .before .if1 .left), ← (c .before .before .before .before .before .before .before .kind .ensures), eq-eqb _ _ (c .before .before .before .before .before .before .if2 .left), ← (c .before .before .before .before .before .payload .ensures), le-ltb 4096 _ (c .before .before .before .before .if3 .left), ← (c .before .before .kind2 .ensures), eq-eqb _ _ (c .before .if4 .left), ← (c .minus-zero .ensures))
+returns-5 c =
+    let if3 = c .before .before .before .before .if3 in
+    let payload = c .before .before .before .before .before .payload in
+    let if2 = c .before .before .before .before .before .before .if2 in
+    let kind = c .before .before .before .before .before .before .before .kind in
+    let if1 = c .before .before .before .before .before .before .before .before .before .if1 in
+    simp (le-ltb _ _ (if1 .left), ← (kind .ensures), eq-eqb _ _ (if2 .left), ← (payload .ensures), le-ltb 4096 _ (if3 .left), ← (c .before .before .kind2 .ensures), eq-eqb _ _ (c .before .if4 .left), ← (c .minus-zero .ensures))
 
 pub head-faulty-spec : {M : Type 1} → statement M
 head-faulty-spec =

@@ -9,9 +9,6 @@ use Rattle.reading.specs.Steps.{placeOf}
 use Rattle.reading.proofs.ProtectionLaws.{goes-on, stops-at, ends-here}
 use Rattle.reading.proofs.protections.read_protections.Statement.{statement}
 use Rattle.reading.proofs.protections.read_protections.Tie as tie
-use Rattle.reading.proofs.protections.read_protections.Reads as reads
-use Rattle.reading.proofs.protections.read_protections.Lts as lts
-use Rattle.reading.proofs.protections.protection.Reads as protection-reads
 
 abbrev Inv-loop : tie.InvT-loop
 Inv-loop book b at₀ left₀ at left = (at ≤ length book) × (placeOf (runFrom (protectionTurn book) b firstRecord) ≡ placeOf (runFrom (protectionTurn book) left at))
@@ -19,39 +16,35 @@ Inv-loop book b at₀ left₀ at left = (at ≤ length book) × (placeOf (runFro
 abbrev μ-loop : tie.MeasureT-loop
 μ-loop book b at₀ left₀ at left = left
 
--- src/protections.rt:71:5
 loop-holds : tie.Need-loop-holds Inv-loop μ-loop
 loop-holds c = (omega arith, refl)
 
--- src/protections.rt:72:15
 protection-requires : tie.Need-protection-requires Inv-loop μ-loop
 protection-requires c κs = search needs
 
--- src/protections.rt:73:31
 enum-known-next : tie.Need-enum-known-next Inv-loop μ-loop
 enum-known-next c = search needs
 
--- src/protections.rt:75:17
 sub-left : tie.Need-sub-left Inv-loop μ-loop
 sub-left c = search needs
 
--- src/protections.rt:71:5
 loop-less : tie.Need-loop-less Inv-loop μ-loop
 loop-less c = search needs
 
--- src/protections.rt:71:5
 loop-again : tie.Need-loop-again Inv-loop μ-loop
 loop-again c = let g = goes-on ((c .before .before .before .before .before .before .before .args .book .now)) (c .before .before .before .before .before .loop .at) ((c .before .before .before .before .before .loop .inv .0)) (c .before .before .before .before .before .loop .left) (c .before .before .before .before .loop-test .taken) ((c .before .next .given .0 .0)) (sym (c .before .before .before .protection .ensures) ∙ (c .before .next .given .1)) in (g .0, (c .before .before .before .before .before .loop .inv .1) ∙ g .1)
 
--- src/protections.rt:77:32
 enum-known-number : tie.Need-enum-known-number Inv-loop μ-loop
 enum-known-number c = search needs
 
--- src/protections.rt:78:17
 returns : tie.Need-returns Inv-loop μ-loop
-returns c = stops-at ((c .before .before .before .before .before .before .before .args .book .now)) (c .before .before .before .before .before .loop .at) ((c .before .before .before .before .before .loop .inv .0)) (c .before .before .before .before .before .loop .left) (c .before .before .before .before .loop-test .taken) ((c .before .number .given .0 .0)) ((c .before .number .given .0 .1 .0)) (sym (c .before .before .before .protection .ensures) ∙ (c .before .number .given .1)) ∙ sym ((c .before .before .before .before .before .loop .inv .1))
+returns c =
+    let e = c .before .before .before .before .before .before .before in
+    let protection = c .before .before .before .protection in
+    let loop-test = c .before .before .before .before .loop-test in
+    let l = c .before .before .before .before .before .loop in
+    stops-at (e .args .book .now) (l .at) (l .inv .0) (l .left) (loop-test .taken) (c .before .number .given .0 .0) (c .before .number .given .0 .1 .0) (sym (protection .ensures) ∙ (c .before .number .given .1)) ∙ sym (l .inv .1)
 
--- src/protections.rt:65:1
 returns-2 : tie.Need-returns-2 Inv-loop μ-loop
 returns-2 c = ends-here ((c .before .before .before .args .book .now)) (c .before .loop .at) ((c .before .loop .inv .0)) (c .before .loop .left) (omega arith) ∙ sym ((c .before .loop .inv .1))
 

@@ -45,7 +45,15 @@ add-s-2 c = search needs
 
 returns : tie.Need-returns
 unfolding plusAsset
-returns c = simp ((c .before .before .before .chosen .ensures .0), (c .before .chosen2 .ensures .0), (c .before .before .before .before .before .before .before .before .before .bit .ensures), (c .before .before .before .before .before .before .wide .ensures), (c .before .before .before .before .before .before .before .before .size .ensures), (c .before .before .before .before .before .before .before .size2 .ensures), (c .before .before .before .before .wide2 .ensures), (c .before .before .before .before .before .size3 .ensures))
+returns c =
+    let chosen = c .before .before .before .chosen in
+    let wide2 = c .before .before .before .before .wide2 in
+    let size3 = c .before .before .before .before .before .size3 in
+    let wide = c .before .before .before .before .before .before .wide in
+    let size2 = c .before .before .before .before .before .before .before .size2 in
+    let size = c .before .before .before .before .before .before .before .before .size in
+    let bit = c .before .before .before .before .before .before .before .before .before .bit in
+    simp ((chosen .ensures .0), (c .before .chosen2 .ensures .0), (bit .ensures), (wide .ensures), (size .ensures), (size2 .ensures), (wide2 .ensures), (size3 .ensures))
 
 pub with-asset-spec : {M : Type 1} → statement M
 with-asset-spec =

@@ -47,7 +47,9 @@ loop-less : tie.Need-loop-less Inv-loop μ-loop
 loop-less c = search needs
 
 loop-again : tie.Need-loop-again Inv-loop μ-loop
-loop-again c = (omega arith, (omega arith, lacking-next _ _ _ _ _ (c .before .before .before .before .loop .other) _ ((c .before .before .before .before .loop .inv) .1 .1) (omega arith) (omega arith) (c .before .kind .ensures) (c .either .ensures)))
+loop-again c =
+    let l = c .before .before .before .before .loop in
+    (omega arith, (omega arith, lacking-next _ _ _ _ _ (l .other) _ ((l .inv) .1 .1) (omega arith) (omega arith) (c .before .kind .ensures) (c .either .ensures)))
 
 returns-2 : tie.Need-returns-2 Inv-loop μ-loop
 returns-2 c = search lacking-end

@@ -42,7 +42,12 @@ less-requires c κs = search needs
 
 returns : tie.Need-returns
 unfolding protectionAt
-returns c = simp ((c .less .ensures), (c .before .before .before .size-at .ensures), (c .before .before .size-at2 .ensures), (c .before .size-at3 .ensures), (c .before .before .before .before .before .field .ensures), (c .before .before .before .before .field2 .ensures), (c .before .before .before .before .before .before .word-at .ensures))
+returns c =
+    let size-at = c .before .before .before .size-at in
+    let field2 = c .before .before .before .before .field2 in
+    let field = c .before .before .before .before .before .field in
+    let word-at = c .before .before .before .before .before .before .word-at in
+    simp ((c .less .ensures), (size-at .ensures), (c .before .before .size-at2 .ensures), (c .before .size-at3 .ensures), (field .ensures), (field2 .ensures), (word-at .ensures))
 
 pub entry-from-spec : {M : Type 1} → statement M
 entry-from-spec =

@@ -41,7 +41,13 @@ past-cover-requires : tie.Need-past-cover-requires Inv-loop μ-loop
 past-cover-requires c κs = omega arith
 
 returns : tie.Need-returns Inv-loop μ-loop
-returns c = found (c .before .before .before .before .before .before .before .before .args .book .now) (c .before .before .before .before .before .before .before .before .args .stop) (c .before .before .before .before .before .before .before .before .args .from) (c .before .before .before .before .before .before .loop .c) _ _ (c .before .before .before .before .before .before .loop .inv) (c .before .before .before .before .if1 .taken) (sym (c .before .before .before .kind-at .ensures) ∙ (c .before .before .if2 .taken)) (c .before .draw-at .ensures) (c .past-cover .ensures)
+returns c =
+    let e = c .before .before .before .before .before .before .before .before in
+    let a = e .args in
+    let kind-at = c .before .before .before .kind-at in
+    let if1 = c .before .before .before .before .if1 in
+    let l = c .before .before .before .before .before .before .loop in
+    found (a .book .now) (a .stop) (a .from) (l .c) _ _ (l .inv) (if1 .taken) (sym (kind-at .ensures) ∙ (c .before .before .if2 .taken)) (c .before .draw-at .ensures) (c .past-cover .ensures)
 
 past-record-requires : tie.Need-past-record-requires Inv-loop μ-loop
 past-record-requires c κs = omega arith
@@ -50,10 +56,19 @@ loop-less : tie.Need-loop-less Inv-loop μ-loop
 loop-less c = rw ((c .past-record .ensures)) (omega (arith, advances (c .before .before .before .before .before .before .before .args .book .now) (c .before .before .before .before .before .loop .c)))
 
 loop-again : tie.Need-loop-again Inv-loop μ-loop
-loop-again c = rw ((c .past-record .ensures)) ((c .before .before .before .before .before .loop .inv) ∙ next-on (c .before .before .before .before .before .before .before .args .book .now) (c .before .before .before .before .before .before .before .args .stop) (c .before .before .before .before .before .loop .c) (c .before .before .before .if1 .taken) (λ e. (c .before .if2 .left) ((c .before .before .kind-at .ensures) ∙ e)))
+loop-again c =
+    let entry = c .before .before .before .before .before .before .before in
+    let a = entry .args in
+    let if1 = c .before .before .before .if1 in
+    let l = c .before .before .before .before .before .loop in
+    rw (c .past-record .ensures) ((l .inv) ∙ next-on (a .book .now) (a .stop) (l .c) (if1 .taken) (λ e. (c .before .if2 .left) ((c .before .before .kind-at .ensures) ∙ e)))
 
 returns-2 : tie.Need-returns-2 Inv-loop μ-loop
-returns-2 c = sym ((c .before .before .loop .inv) ∙ next-none (c .before .before .before .before .args .book .now) (c .before .before .before .before .args .stop) (c .before .before .loop .c) (c .if1 .left))
+returns-2 c =
+    let e = c .before .before .before .before in
+    let a = e .args in
+    let l = c .before .before .loop in
+    sym ((l .inv) ∙ next-none (a .book .now) (a .stop) (l .c) (c .if1 .left))
 
 pub next-draw-spec : {M : Type 1} → statement M
 next-draw-spec =

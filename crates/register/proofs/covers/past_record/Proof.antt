@@ -45,7 +45,15 @@ less-requires c κs = search needs
 
 returns : tie.Need-returns
 unfolding behind
-returns c = simp ((c .less .ensures), (c .before .before .before .before .before .size-at .ensures), (c .before .before .before .size-at2 .ensures), (c .before .size-at3 .ensures), (c .before .before .before .before .before .before .before .before .field .ensures), (c .before .before .before .before .before .before .before .field2 .ensures), (c .before .before .before .before .before .before .before .before .before .before .before .before .word-at .ensures), eq-eqb _ _ (sym (c .before .before .before .before .before .before .before .before .before .before .before .kind-at .ensures) ∙ (c .before .before .before .before .before .before .before .before .before .before .if1 .taken)))
+returns c =
+    let size-at2 = c .before .before .before .size-at2 in
+    let size-at = c .before .before .before .before .before .size-at in
+    let field2 = c .before .before .before .before .before .before .before .field2 in
+    let field = c .before .before .before .before .before .before .before .before .field in
+    let if1 = c .before .before .before .before .before .before .before .before .before .before .if1 in
+    let kind-at = c .before .before .before .before .before .before .before .before .before .before .before .kind-at in
+    let word-at = c .before .before .before .before .before .before .before .before .before .before .before .before .word-at in
+    simp ((c .less .ensures), (size-at .ensures), (size-at2 .ensures), (c .before .size-at3 .ensures), (field .ensures), (field2 .ensures), (word-at .ensures), eq-eqb _ _ (sym (kind-at .ensures) ∙ (if1 .taken)))
 
 amounts-requires : tie.Need-amounts-requires
 amounts-requires c κs = search needs
@@ -61,7 +69,10 @@ add-t18 c = search needs
 
 returns-2 : tie.Need-returns-2
 unfolding behind
-returns-2 c = simp (add-one, (c .before .amounts .ensures), (c .before .before .before .before .word-at .ensures), ne-eqb _ _ (λ e. (c .before .before .if1 .left) ((c .before .before .before .kind-at .ensures) ∙ e)))
+returns-2 c =
+    let kind-at = c .before .before .before .kind-at in
+    let word-at = c .before .before .before .before .word-at in
+    simp (add-one, (c .before .amounts .ensures), (word-at .ensures), ne-eqb _ _ (λ e. (c .before .before .if1 .left) ((kind-at .ensures) ∙ e)))
 
 pub past-record-spec : {M : Type 1} → statement M
 past-record-spec =

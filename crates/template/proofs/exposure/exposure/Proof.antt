@@ -3,24 +3,16 @@ use borrow.Author.Needs.{needs}
 use Rattle.template.proofs.Sections.{exposure-is}
 use Rattle.template.proofs.exposure.exposure.Statement.{statement}
 use Rattle.template.proofs.exposure.exposure.Tie as tie
-use Rattle.template.proofs.exposure.exposure.Reads as reads
-use Rattle.template.proofs.exposure.exposure.Lts as lts
-use Rattle.template.proofs.exposure.counted_down.Reads as counted-down-reads
-use Rattle.template.proofs.exposure.counted_up.Reads as counted-up-reads
 
--- src/exposure.rt:12:9
 counted-up-requires : tie.Need-counted-up-requires
 counted-up-requires c κs = search needs
 
--- src/exposure.rt:13:9
 counted-down-requires : tie.Need-counted-down-requires
 counted-down-requires c κs = search needs
 
--- src/exposure.rt:14:5
 sub-result : tie.Need-sub-result
 sub-result c = search needs
 
--- src/exposure.rt:8:1
 returns : tie.Need-returns
 returns c =
     let a = c .before .before .args in

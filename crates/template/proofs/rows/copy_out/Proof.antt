@@ -8,8 +8,6 @@ use borrow.Author.Needs.{needs}
 use Rattle.template.proofs.Copying.{copy-next, copy-done}
 use Rattle.template.proofs.rows.copy_out.Statement.{statement}
 use Rattle.template.proofs.rows.copy_out.Tie as tie
-use Rattle.template.proofs.rows.copy_out.Reads as reads
-use Rattle.template.proofs.rows.copy_out.Lts as lts
 
 abbrev Inv-loop : tie.InvT-loop
 Inv-loop to₀ from i₀ to i = (i ≤ 22) × (length from ≡ 22) × (length to ≡ length to₀) × (to ≡ take i from ++ drop i to₀)
@@ -17,45 +15,35 @@ Inv-loop to₀ from i₀ to i = (i ≤ 22) × (length from ≡ 22) × (length to
 abbrev μ-loop : tie.MeasureT-loop
 μ-loop to₀ from i₀ to i = 22 - i
 
--- src/rows.rt:34:5
 loop-holds : tie.Need-loop-holds Inv-loop μ-loop
 loop-holds c = (omega arith, search needs, refl, refl)
 
--- src/rows.rt:35:19
 mul-row : tie.Need-mul-row Inv-loop μ-loop
 mul-row c = search needs
 
--- src/rows.rt:35:19
 array-copy-out-row : tie.Need-array-copy-out-row Inv-loop μ-loop
 array-copy-out-row c = search needs
 
--- src/rows.rt:36:9
 mul-row-2 : tie.Need-mul-row-2 Inv-loop μ-loop
 mul-row-2 c = search needs
 
--- src/rows.rt:36:9
 slice-set-from-row : tie.Need-slice-set-from-row Inv-loop μ-loop
 slice-set-from-row c = search needs
 
--- src/rows.rt:37:9
 add-i : tie.Need-add-i Inv-loop μ-loop
 add-i c = search needs
 
--- src/rows.rt:34:5
 loop-less : tie.Need-loop-less Inv-loop μ-loop
 loop-less c = search needs
 
--- src/rows.rt:34:5
 loop-again : tie.Need-loop-again Inv-loop μ-loop
 loop-again c =
     let i = c .before .before .loop .inv in
     (omega arith, i .1, simp length-set (i .2), copy-next _ _ _ _ (i .3) (omega arith) (omega arith) (search))
 
--- src/rows.rt:29:1
 same-length : tie.Need-same-length Inv-loop μ-loop
 same-length c = search needs
 
--- src/rows.rt:29:1
 returns : tie.Need-returns Inv-loop μ-loop
 returns c =
     let i = c .before .loop .inv in

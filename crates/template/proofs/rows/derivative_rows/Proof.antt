@@ -4,95 +4,70 @@ use Rattle.rules.proofs.Differences.{of-pos, of-minus}
 use Rattle.template.proofs.Sections.{row, derivatives-are}
 use Rattle.template.proofs.rows.derivative_rows.Statement.{statement}
 use Rattle.template.proofs.rows.derivative_rows.Tie as tie
-use Rattle.template.proofs.rows.derivative_rows.Reads as reads
-use Rattle.template.proofs.rows.derivative_rows.Lts as lts
-use Rattle.template.proofs.signed.signed.Reads as signed-reads
 
--- src/rows.rt:55:14
 add-up : tie.Need-add-up
 add-up c = search needs
 
--- src/rows.rt:55:14
 add-up-2 : tie.Need-add-up-2
 add-up-2 c = search needs
 
--- src/rows.rt:55:14
 add-up-3 : tie.Need-add-up-3
 add-up-3 c = search needs
 
--- src/rows.rt:56:16
 add-down : tie.Need-add-down
 add-down c = search needs
 
--- src/rows.rt:56:16
 add-down-2 : tie.Need-add-down-2
 add-down-2 c = search needs
 
--- src/rows.rt:57:15
 signed-requires : tie.Need-signed-requires
 signed-requires c κs = search needs
 
--- src/rows.rt:57:5
 array-set-from-rows : tie.Need-array-set-from-rows
 array-set-from-rows c = search needs
 
--- src/rows.rt:58:15
 signed-requires-2 : tie.Need-signed-requires-2
 signed-requires-2 c κs = search needs
 
--- src/rows.rt:58:5
 array-set-from-rows-2 : tie.Need-array-set-from-rows-2
 array-set-from-rows-2 c = search needs
 
--- src/rows.rt:59:15
 signed-requires-3 : tie.Need-signed-requires-3
 signed-requires-3 c κs = search needs
 
--- src/rows.rt:59:5
 array-set-from-rows-3 : tie.Need-array-set-from-rows-3
 array-set-from-rows-3 c = search needs
 
--- src/rows.rt:60:15
 signed-requires-4 : tie.Need-signed-requires-4
 signed-requires-4 c κs = search needs
 
--- src/rows.rt:60:5
 array-set-from-rows-4 : tie.Need-array-set-from-rows-4
 array-set-from-rows-4 c = search needs
 
--- src/rows.rt:61:15
 signed-requires-5 : tie.Need-signed-requires-5
 signed-requires-5 c κs = search needs
 
--- src/rows.rt:61:5
 array-set-from-rows-5 : tie.Need-array-set-from-rows-5
 array-set-from-rows-5 c = search needs
 
--- src/rows.rt:62:15
 signed-requires-6 : tie.Need-signed-requires-6
 signed-requires-6 c κs = search needs
 
--- src/rows.rt:62:5
 array-set-from-rows-6 : tie.Need-array-set-from-rows-6
 array-set-from-rows-6 c = search needs
 
--- src/rows.rt:63:15
 signed-requires-7 : tie.Need-signed-requires-7
 signed-requires-7 c κs = search needs
 
--- src/rows.rt:63:5
 array-set-from-rows-7 : tie.Need-array-set-from-rows-7
 array-set-from-rows-7 c = search needs
 
--- src/rows.rt:64:16
 signed-requires-8 : tie.Need-signed-requires-8
 signed-requires-8 c κs = search needs
 
--- src/rows.rt:64:5
 array-set-from-rows-8 : tie.Need-array-set-from-rows-8
 array-set-from-rows-8 c = search needs
 
--- src/rows.rt:51:1
 returns : tie.Need-returns
 returns c =
     let s = c .before .before .before .before .before .before .before .before .before .before .before .before .before .args .s in

@@ -4,59 +4,43 @@ use Rattle.rules.proofs.Differences.{of-pos, of-minus}
 use Rattle.template.proofs.Sections.{row, financing-is}
 use Rattle.template.proofs.rows.financing_rows.Statement.{statement}
 use Rattle.template.proofs.rows.financing_rows.Tie as tie
-use Rattle.template.proofs.rows.financing_rows.Reads as reads
-use Rattle.template.proofs.rows.financing_rows.Lts as lts
-use Rattle.template.proofs.signed.signed.Reads as signed-reads
 
--- src/rows.rt:72:14
 add-up : tie.Need-add-up
 add-up c = search needs
 
--- src/rows.rt:72:14
 add-up-2 : tie.Need-add-up-2
 add-up-2 c = search needs
 
--- src/rows.rt:73:16
 signed-requires : tie.Need-signed-requires
 signed-requires c κs = search needs
 
--- src/rows.rt:73:5
 array-set-from-rows : tie.Need-array-set-from-rows
 array-set-from-rows c = search needs
 
--- src/rows.rt:74:16
 signed-requires-2 : tie.Need-signed-requires-2
 signed-requires-2 c κs = search needs
 
--- src/rows.rt:74:5
 array-set-from-rows-2 : tie.Need-array-set-from-rows-2
 array-set-from-rows-2 c = search needs
 
--- src/rows.rt:75:16
 signed-requires-3 : tie.Need-signed-requires-3
 signed-requires-3 c κs = search needs
 
--- src/rows.rt:75:5
 array-set-from-rows-3 : tie.Need-array-set-from-rows-3
 array-set-from-rows-3 c = search needs
 
--- src/rows.rt:76:16
 signed-requires-4 : tie.Need-signed-requires-4
 signed-requires-4 c κs = search needs
 
--- src/rows.rt:76:5
 array-set-from-rows-4 : tie.Need-array-set-from-rows-4
 array-set-from-rows-4 c = search needs
 
--- src/rows.rt:77:16
 signed-requires-5 : tie.Need-signed-requires-5
 signed-requires-5 c κs = search needs
 
--- src/rows.rt:77:5
 array-set-from-rows-5 : tie.Need-array-set-from-rows-5
 array-set-from-rows-5 c = search needs
 
--- src/rows.rt:68:1
 returns : tie.Need-returns
 returns c =
     let s = c .before .before .before .before .before .before .before .args .s in

@@ -4,35 +4,25 @@ use Rattle.rules.proofs.Differences.{of-pos, of-minus}
 use Rattle.template.proofs.Sections.{row, on-balance-is}
 use Rattle.template.proofs.rows.on_balance_rows.Statement.{statement}
 use Rattle.template.proofs.rows.on_balance_rows.Tie as tie
-use Rattle.template.proofs.rows.on_balance_rows.Reads as reads
-use Rattle.template.proofs.rows.on_balance_rows.Lts as lts
-use Rattle.template.proofs.signed.signed.Reads as signed-reads
 
--- src/rows.rt:45:15
 signed-requires : tie.Need-signed-requires
 signed-requires c κs = search needs
 
--- src/rows.rt:45:5
 array-set-from-rows : tie.Need-array-set-from-rows
 array-set-from-rows c = search needs
 
--- src/rows.rt:46:15
 signed-requires-2 : tie.Need-signed-requires-2
 signed-requires-2 c κs = search needs
 
--- src/rows.rt:46:5
 array-set-from-rows-2 : tie.Need-array-set-from-rows-2
 array-set-from-rows-2 c = search needs
 
--- src/rows.rt:47:15
 signed-requires-3 : tie.Need-signed-requires-3
 signed-requires-3 c κs = search needs
 
--- src/rows.rt:47:5
 array-set-from-rows-3 : tie.Need-array-set-from-rows-3
 array-set-from-rows-3 c = search needs
 
--- src/rows.rt:41:1
 returns : tie.Need-returns
 returns c =
     let s = c .before .before .before .args .s in

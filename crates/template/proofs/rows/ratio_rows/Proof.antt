@@ -8,51 +8,35 @@ use Rattle.template.proofs.Reading.{read}
 use Rattle.template.proofs.Sections.{row, tier1-is, exposure-small, exposed-is}
 use Rattle.template.proofs.rows.ratio_rows.Statement.{statement}
 use Rattle.template.proofs.rows.ratio_rows.Tie as tie
-use Rattle.template.proofs.rows.ratio_rows.Reads as reads
-use Rattle.template.proofs.rows.ratio_rows.Lts as lts
-use Rattle.template.proofs.exposure.exposure.Reads as exposure-reads
-use Rattle.template.proofs.ratio.ratio.Reads as ratio-reads
-use Rattle.template.proofs.signed.signed.Reads as signed-reads
-use Rattle.template.proofs.units.thousandths.Reads as thousandths-reads
 
--- src/rows.rt:95:9
 exposure-requires : tie.Need-exposure-requires
 exposure-requires c κs = search needs
 
--- src/rows.rt:96:23
 thousandths-requires : tie.Need-thousandths-requires
 thousandths-requires c κs = search needs
 
--- src/rows.rt:96:42
 thousandths-requires-2 : tie.Need-thousandths-requires-2
 thousandths-requires-2 c κs = search needs
 
--- src/rows.rt:96:16
 signed-requires : tie.Need-signed-requires
 signed-requires c κs = search needs
 
--- src/rows.rt:96:5
 array-set-from-rows : tie.Need-array-set-from-rows
 array-set-from-rows c = search needs
 
--- src/rows.rt:97:16
 signed-requires-2 : tie.Need-signed-requires-2
 signed-requires-2 c κs =
     (exposure-small (c .before .before .before .before .args .s) (c .before .before .before .before .pre) _ (c .before .before .before .exposure .ensures), omega arith)
 
--- src/rows.rt:97:5
 array-set-from-rows-2 : tie.Need-array-set-from-rows-2
 array-set-from-rows-2 c = search needs
 
--- src/rows.rt:98:16
 ratio-requires : tie.Need-ratio-requires
 ratio-requires c κs = search needs
 
--- src/rows.rt:98:5
 array-set-from-rows-3 : tie.Need-array-set-from-rows-3
 array-set-from-rows-3 c = search needs
 
--- src/rows.rt:91:1
 returns : tie.Need-returns
 returns c =
     let a = c .before .before .before .before .before .before .args in

@@ -7,30 +7,21 @@ use Rattle.rules.proofs.Differences.{of-pos, of-minus, as-difference}
 use Rattle.template.proofs.Reading.{read}
 use Rattle.template.proofs.signed.signed.Statement.{statement}
 use Rattle.template.proofs.signed.signed.Tie as tie
-use Rattle.template.proofs.signed.signed.Reads as reads
-use Rattle.template.proofs.signed.signed.Lts as lts
-use Rattle.template.proofs.signed.below_zero.Reads as below-zero-reads
-use Rattle.template.proofs.signed.whole.Reads as whole-reads
 
--- src/signed.rt:28:27
 sub-below-zero : tie.Need-sub-below-zero
 sub-below-zero c = search needs
 
--- src/signed.rt:28:9
 below-zero-requires : tie.Need-below-zero-requires
 below-zero-requires c κs = search needs
 
--- src/signed.rt:28:9
 returns : tie.Need-returns
 returns c =
     let a = c .before .before .args in
     read (c .below-zero .ok) (c .below-zero .ensures ∙ as-difference (a .up) (a .down) (of-minus (a .down - a .up)) (omega arith) .is)
 
--- src/signed.rt:30:5
 whole-requires : tie.Need-whole-requires
 whole-requires c κs = search needs
 
--- src/signed.rt:23:1
 returns-2 : tie.Need-returns-2
 returns-2 c =
     let a = c .before .before .args in

@@ -33,7 +33,12 @@ add-self-3 c = let a = c .before .before .before .before .before .before .before
 
 returns : tie.Need-returns
 unfolding tradeAddOn
-returns c = simp ((c .before .before .before .before .before .wide .ensures), (c .before .before .wide2 .ensures), (c .before .before .before .before .before .before .gain .ensures), (c .before .before .before .loss .ensures), (c .before .before .before .before .before .before .before .trade-add-on .ensures), add-zero)
+returns c =
+    let loss = c .before .before .before .loss in
+    let wide = c .before .before .before .before .before .wide in
+    let gain = c .before .before .before .before .before .before .gain in
+    let trade-add-on = c .before .before .before .before .before .before .before .trade-add-on in
+    simp ((wide .ensures), (c .before .before .wide2 .ensures), (gain .ensures), (loss .ensures), (trade-add-on .ensures), add-zero)
 
 pub add-trade-spec : {M : Type 1} → statement M
 add-trade-spec =

@@ -42,7 +42,12 @@ add-self-3 : tie.Need-add-self-3
 add-self-3 c = let a = c .before .before .before .before .before .before .before .before .before .before .before .args in omega (arith, (c .before .before .before .before .before .before .before .before .before .before .before .pre .0 .gross), (c .before .before .before .before .before .before .before .before .before .before .written-add-on .ensures), written-add-on (writtenOf (a .w) 0 (a .notional) 0 0 (a .premiums) []))
 
 sub-self : tie.Need-sub-self
-sub-self c = kept-under (c .before .before .before .before .before .before .before .kept-in .result) (c .before .before .before .before .before .before .before .before .before .before .written-add-on .result) (c .before .before .before .before .before .before .before .before .before .before .before .args .covered) (c .before .before .before .before .before .before .before .before .wide .result) (c .before .before .before .before .before .before .before .kept-in .ensures)
+sub-self c =
+    let e = c .before .before .before .before .before .before .before .before .before .before .before in
+    let kept-in = c .before .before .before .before .before .before .before .kept-in in
+    let wide = c .before .before .before .before .before .before .before .before .wide in
+    let written-add-on = c .before .before .before .before .before .before .before .before .before .before .written-add-on in
+    kept-under (kept-in .result) (written-add-on .result) (e .args .covered) (wide .result) (kept-in .ensures)
 
 add-self-4 : tie.Need-add-self-4
 add-self-4 c = let a = c .before .before .before .before .before .before .before .before .before .before .before .before .args in omega (arith, (c .before .before .before .before .before .before .before .before .before .before .before .before .pre .0 .uncovered), (c .before .before .before .before .before .before .before .before .before .before .before .written-add-on .ensures), written-add-on (writtenOf (a .w) 0 (a .notional) 0 0 (a .premiums) []))
@@ -60,14 +65,28 @@ wide-requires-4 : tie.Need-wide-requires-4
 wide-requires-4 c κs = search needs
 
 add-self-5 : tie.Need-add-self-5
-add-self-5 c = omega (arith, (c .before .before .before .before .before .before .before .before .before .before .before .before .before .before .before .before .pre .0 .written), (c .before .wide4 .ensures), (c .before .before .before .size2 .ensures))
+add-self-5 c =
+    let e = c .before .before .before .before .before .before .before .before .before .before .before .before .before .before .before .before in
+    let size2 = c .before .before .before .size2 in
+    omega (arith, (e .pre .0 .written), (c .before .wide4 .ensures), (size2 .ensures))
 
 add-self-6 : tie.Need-add-self-6
 add-self-6 c = let p = c .before .before .before .before .before .before .before .before .before .before .before .before .before .before .before .before .before .pre in omega (arith, (p .0 .covered), (p .1 .1))
 
 returns : tie.Need-returns
 unfolding writtenAddOn
-returns c = simp ((c .before .before .wide4 .ensures), (c .before .before .before .size3 .ensures), (c .before .before .before .before .size2 .ensures), (c .before .before .before .before .before .before .before .before .wide3 .ensures), (c .before .before .before .before .before .before .before .before .before .loss .ensures), (c .before .before .before .before .before .before .before .before .before .before .before .wide2 .ensures), (c .before .before .before .before .before .before .before .before .before .before .before .before .gain .ensures), (c .before .before .before .before .before .before .before .before .before .before .before .before .before .kept-in .ensures), (c .before .before .before .before .before .before .before .before .before .before .before .before .before .before .wide .ensures), (c .before .before .before .before .before .before .before .before .before .before .before .before .before .before .before .size .ensures), (c .before .before .before .before .before .before .before .before .before .before .before .before .before .before .before .before .written-add-on .ensures))
+returns c =
+    let size3 = c .before .before .before .size3 in
+    let size2 = c .before .before .before .before .size2 in
+    let wide3 = c .before .before .before .before .before .before .before .before .wide3 in
+    let loss = c .before .before .before .before .before .before .before .before .before .loss in
+    let wide2 = c .before .before .before .before .before .before .before .before .before .before .before .wide2 in
+    let gain = c .before .before .before .before .before .before .before .before .before .before .before .before .gain in
+    let kept-in = c .before .before .before .before .before .before .before .before .before .before .before .before .before .kept-in in
+    let wide = c .before .before .before .before .before .before .before .before .before .before .before .before .before .before .wide in
+    let size = c .before .before .before .before .before .before .before .before .before .before .before .before .before .before .before .size in
+    let written-add-on = c .before .before .before .before .before .before .before .before .before .before .before .before .before .before .before .before .written-add-on in
+    simp ((c .before .before .wide4 .ensures), (size3 .ensures), (size2 .ensures), (wide3 .ensures), (loss .ensures), (wide2 .ensures), (gain .ensures), (kept-in .ensures), (wide .ensures), (size .ensures), (written-add-on .ensures))
 
 pub add-written-spec : {M : Type 1} → statement M
 add-written-spec =

@@ -1,85 +1,60 @@
 -- Each amount is the size of its word. Assumes nothing.
 use borrow.Author.Needs.{needs}
-use Rattle.words.proofs.amount.size.Reads as size-reads
-use Rattle.words.proofs.parts.bit.Reads as bit-reads
 use Rattle.financing.specs.Weighing.{tallied}
 use Rattle.financing.proofs.tally.FinancingTally.add.Statement.{statement}
 use Rattle.financing.proofs.tally.FinancingTally.add.Tie as tie
-use Rattle.financing.proofs.tally.FinancingTally.add.Reads as reads
-use Rattle.financing.proofs.tally.FinancingTally.add.Lts as lts
-use Rattle.words.proofs.numbers.less.Reads as less-reads
-use Rattle.financing.proofs.amounts.amount.Reads as amount-reads
-use Rattle.financing.proofs.tally.FinancingTally.settle.Reads as settle-reads
 
--- src/tally.rt:48:43
 amount-requires : tie.Need-amount-requires
 amount-requires c κs = search needs
 
--- src/tally.rt:48:58
 amount-requires-2 : tie.Need-amount-requires-2
 amount-requires-2 c κs = search needs
 
--- src/tally.rt:48:37
 less-requires : tie.Need-less-requires
 less-requires c κs = search needs
 
--- src/tally.rt:48:23
 add-self : tie.Need-add-self
 add-self c = search needs
 
--- src/tally.rt:49:33
 amount-requires-3 : tie.Need-amount-requires-3
 amount-requires-3 c κs = search needs
 
--- src/tally.rt:49:21
 add-self-2 : tie.Need-add-self-2
 add-self-2 c = search needs
 
--- src/tally.rt:50:41
 amount-requires-4 : tie.Need-amount-requires-4
 amount-requires-4 c κs = search needs
 
--- src/tally.rt:50:25
 add-self-3 : tie.Need-add-self-3
 add-self-3 c = search needs
 
--- src/tally.rt:51:43
 amount-requires-5 : tie.Need-amount-requires-5
 amount-requires-5 c κs = search needs
 
--- src/tally.rt:51:57
 amount-requires-6 : tie.Need-amount-requires-6
 amount-requires-6 c κs = search needs
 
--- src/tally.rt:51:37
 less-requires-2 : tie.Need-less-requires-2
 less-requires-2 c κs = search needs
 
--- src/tally.rt:51:23
 add-self-4 : tie.Need-add-self-4
 add-self-4 c = search needs
 
--- src/tally.rt:52:21
 bit-requires : tie.Need-bit-requires
 bit-requires c κs = search needs
 
--- src/tally.rt:52:32
 amount-requires-7 : tie.Need-amount-requires-7
 amount-requires-7 c κs = search needs
 
--- src/tally.rt:52:52
 amount-requires-8 : tie.Need-amount-requires-8
 amount-requires-8 c κs = search needs
 
--- src/tally.rt:52:69
 size-requires : tie.Need-size-requires
 size-requires c κs = search needs
 
--- src/tally.rt:52:9
 settle-requires : tie.Need-settle-requires
 settle-requires c κs = search needs
 
--- src/tally.rt:44:5
 returns : tie.Need-returns
 unfolding tallied
 returns c =

@@ -4,48 +4,34 @@ use borrow.Author.Needs.{needs}
 use Rattle.financing.specs.Weighing.{settled}
 use Rattle.financing.proofs.tally.FinancingTally.settle.Statement.{statement}
 use Rattle.financing.proofs.tally.FinancingTally.settle.Tie as tie
-use Rattle.financing.proofs.tally.FinancingTally.settle.Reads as reads
-use Rattle.financing.proofs.tally.FinancingTally.settle.Lts as lts
-use Rattle.words.proofs.numbers.chosen.Reads as chosen-reads
-use Rattle.words.proofs.numbers.lesser.Reads as lesser-reads
 
--- src/tally.rt:61:53
 lesser-requires : tie.Need-lesser-requires
 lesser-requires c κs = search needs
 
--- src/tally.rt:61:37
 chosen-requires : tie.Need-chosen-requires
 chosen-requires c κs = search needs
 
--- src/tally.rt:61:23
 add-self : tie.Need-add-self
 add-self c = omega arith
 
--- src/tally.rt:63:27
 chosen-requires-2 : tie.Need-chosen-requires-2
 chosen-requires-2 c κs = search needs
 
--- src/tally.rt:63:62
 chosen-requires-3 : tie.Need-chosen-requires-3
 chosen-requires-3 c κs = search needs
 
--- src/tally.rt:63:27
 add-self-2 : tie.Need-add-self-2
 add-self-2 c = omega arith
 
--- src/tally.rt:64:24
 chosen-requires-4 : tie.Need-chosen-requires-4
 chosen-requires-4 c κs = search needs
 
--- src/tally.rt:64:56
 chosen-requires-5 : tie.Need-chosen-requires-5
 chosen-requires-5 c κs = search needs
 
--- src/tally.rt:64:24
 add-self-3 : tie.Need-add-self-3
 add-self-3 c = omega arith
 
--- src/tally.rt:56:5
 returns : tie.Need-returns
 unfolding settled
 returns c =
