@@ -96,16 +96,16 @@ pub fn read_items(book: &[u32], first: usize, bands: Bands) -> Reading
         unconverted: 0,
     };
     loop {
-        let owned = assets(book, at, s, bands);
-        let promised = off_balance_items(book, owned.next, owned.sums, bands);
-        match item_at(book, promised.next, promised.sums, bands) {
+        let after_assets = assets(book, at, s, bands);
+        let after_items = off_balance_items(book, after_assets.next, after_assets.sums, bands);
+        match item_at(book, after_items.next, after_items.sums, bands) {
             ItemAnswer::More(sums, next) => {
                 s = sums;
                 at = next;
             }
             ItemAnswer::End => {
-                let sums = promised.sums;
-                return Reading::Whole(sums, promised.next);
+                let sums = after_items.sums;
+                return Reading::Whole(sums, after_items.next);
             }
             ItemAnswer::Halt(number, place) => {
                 return Reading::Fault(number, place);

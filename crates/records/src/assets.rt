@@ -46,9 +46,9 @@ fn with_asset(mut s: Sums, w: u32, carrying: u32, provision: u32, deducted: u32)
 {
     let fiduciary = bit(w, 0);
     let carried = 1000 * wide(size(carrying) - size(provision));
-    let less = 1000 * wide(size(deducted));
+    let taken_off = 1000 * wide(size(deducted));
     s.assets = s.assets + chosen(fiduciary, 0, carried);
-    s.deducted = s.deducted + chosen(fiduciary, 0, less);
+    s.deducted = s.deducted + chosen(fiduciary, 0, taken_off);
     s
 }
 

@@ -28,8 +28,8 @@ size-requires-3 c κs = search needs
 wide-requires-2 : tie.Need-wide-requires-2
 wide-requires-2 c κs = search needs
 
-mul-less : tie.Need-mul-less
-mul-less c = search needs
+mul-taken-off : tie.Need-mul-taken-off
+mul-taken-off c = search needs
 
 chosen-requires : tie.Need-chosen-requires
 chosen-requires c κs = search needs
@@ -67,7 +67,7 @@ with-asset-spec =
     mul-carried
     size-requires-3
     wide-requires-2
-    mul-less
+    mul-taken-off
     chosen-requires
     add-s
     chosen-requires-2
