@@ -14,10 +14,6 @@ use Rattle.derivatives.specs.Gathered.{setOf, tallyBy, plusSet, replaced
 
 -- ---- how large
 
-pub marked-under : (b : Bool) (x r : ℕ) → r ≡ cond b x 0 → r ≤ x
-marked-under true x r e = omega arith
-marked-under false x r e = omega arith
-
 pub replaced-under : (b : Bool) (gains off r : ℕ) → r ≡ replacedBy b gains off → r ≤ gains
 unfolding replacedBy
 replaced-under true gains off r e = omega arith

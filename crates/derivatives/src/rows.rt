@@ -3,12 +3,13 @@ use crate::tally::Tally;
 use rules::Sums;
 use weights::addon::weighted;
 use words::amount::size;
+use words::numbers::chosen;
 use words::numbers::less;
 use words::numbers::wide;
 use words::parts::bit;
 use words::parts::field;
 ghost use mathlib.Core.Path.{_≡_};
-ghost use mathlib.Core.Bool.{cond, _&&_};
+ghost use mathlib.Core.Bool.{_&&_};
 ghost use mathlib.Core.List.{[]};
 ghost use Prim.Native.Nat.{_-_, _^_, _≤_, _<_};
 ghost use Rattle.rules.specs.Word.{bitOf};
@@ -20,13 +21,6 @@ fn margin_counts(w: u32) -> bool
     ensures { λ r. ⌜ r ≡ (bitOf 0 w && bitOf 1 w && bitOf 2 w && bitOf 3 w && bitOf 4 w) ⌝ }
 {
     field(w, 0, 5) == 31
-}
-
-// An amount where a mark is set, else 0.
-fn marked(mark: bool, x: u64) -> u64
-    ensures { λ r. ⌜ r ≡ cond mark x 0 ⌝ }
-{
-    if mark { x } else { 0 }
 }
 
 // "Netting marked: replacement is N"; less what margin was received, where it counts. "Not marked: replacement G".
@@ -68,7 +62,7 @@ pub fn with_set(mut s: Sums, w: u32, received: u32, paid: u32, posted: u32, t: T
 {
     let netting = bit(w, 0);
     let counts = margin_counts(w);
-    let with_margin = t.losses + marked(counts, wide(size(received)));
+    let with_margin = t.losses + chosen(counts, wide(size(received)), 0);
     let replaced = 1000 * replacement(netting, t.gains, with_margin);
     let gross = weighted_in(netting, t.gains, t.losses, t.gross);
     let kept = weighted_rest(netting, t.gains, t.losses, t.gross, t.uncovered, gross);
@@ -77,8 +71,8 @@ pub fn with_set(mut s: Sums, w: u32, received: u32, paid: u32, posted: u32, t: T
     s.replacement = s.replacement + replaced;
     s.weighted = s.weighted + gross;
     s.posted = s.posted + 1000 * wide(size(posted));
-    s.offset = s.offset + marked(counts, cash_paid);
-    s.exempt = s.exempt + marked(bit(w, 5), replaced + kept);
+    s.offset = s.offset + chosen(counts, cash_paid, 0);
+    s.exempt = s.exempt + chosen(bit(w, 5), replaced + kept, 0);
     s.written = s.written + 1000 * t.written;
     s.covered = s.covered + (1000 * t.covered + (gross - kept));
     s

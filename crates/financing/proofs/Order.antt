@@ -1,13 +1,13 @@
 -- The trades that are read behind the head of a financing set never fall: each is held against the word before it. Assumes nothing.
 use Prim.Native.Nat.{ℕ, zero, suc, _+_, _-_, _≤_}
-use mathlib.Core.Path.{_≡_, refl, sym, _∙_, ap}
+use mathlib.Core.Path.{_≡_, refl}
 use mathlib.Core.Bool.{Bool, true, false, not, _||_, cond}
 use mathlib.Core.List.{List}
 use native.Mathlib.Omega.{arith}
 use borrow.Author.Tests.{eqb-true, eq-eqb, ne-eqb, ltb-false, not-false}
 use lib.Dec.{eqb, leb}
 use lib.ListN.{length}
-use Rattle.rules.specs.Word.{word, kindOf, sizeOf, bitOf, amountsIn}
+use Rattle.rules.specs.Word.{word, kindOf, sizeOf, bitOf}
 use Rattle.rules.specs.Book.{FinancingTrade}
 use Rattle.rules.specs.Run.{Turn, over, bad, some, Run, thenRun, runFrom, sound}
 use Rattle.rules.specs.Faults.{financingTradeFault}

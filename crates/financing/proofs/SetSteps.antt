@@ -1,9 +1,9 @@
 -- A financing set by its tally: what it puts into the sums, that this fits, and what each way out of the set's function returns.
 -- Assumes nothing.
-use Prim.Native.Nat.{ℕ, zero, suc, _+_, _-_, _*_, _^_, _≤_, _<_, min}
+use Prim.Native.Nat.{ℕ, zero, suc, _-_, _^_, _≤_}
 use mathlib.Core.Path.{_≡_, refl, sym, _∙_, ap, ap₂}
-use mathlib.Core.Bool.{Bool, true, false, cond}
-use mathlib.Core.List.{List, [], _∷_}
+use mathlib.Core.Bool.{Bool, true, false}
+use mathlib.Core.List.{List}
 use native.Mathlib.Omega.{arith}
 use native.Mathlib.Nat.{add-zero, zero-add}
 use lib.ListN.{length}
@@ -18,7 +18,6 @@ use Rattle.rules.specs.Weigh.{excessOf}
 use Rattle.rules.proofs.Lists.{total-le-all}
 use Rattle.rules.proofs.Runs.{fine-run}
 use Rattle.records.specs.Step.{Part, plusItem, itemStep}
-use Rattle.records.specs.declared.ItemStep.{ItemStep}
 use Rattle.records.specs.declared.ItemStep.the-variants.{Next, Stop}
 use Rattle.records.proofs.Words.{turn-fault, turn-on}
 use Rattle.theorems.proofs.MemberBounds.{perWord, financingWeight, financing-total, fine-financing-member}

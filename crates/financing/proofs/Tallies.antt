@@ -1,16 +1,15 @@
 -- The tally of a set's trades: its sums are those of the definitions, and its cash is that of the days one after the other.
 -- Assumes nothing.
-use Prim.Native.Nat.{ℕ, zero, suc, _+_, _-_, _*_, _^_, _≤_, min}
-use mathlib.Core.Path.{_≡_, refl, sym, _∙_, ap}
+use Prim.Native.Nat.{_+_, _-_, min}
+use mathlib.Core.Path.{_≡_, refl, sym, _∙_}
 use mathlib.Core.Bool.{Bool, true, false, cond}
 use mathlib.Core.List.{List, [], _∷_}
 use native.Mathlib.Omega.{arith}
-use native.Mathlib.Nat.{add-zero, zero-add, add-assoc}
+use native.Mathlib.Nat.{add-zero, zero-add}
 use borrow.Author.Tests.{eqb-true}
 use lib.Dec.{eqb}
 use Rattle.rules.specs.Book.{FinancingTrade, total}
 use Rattle.rules.specs.Weigh.{cashNetted}
-use Rattle.rules.proofs.Lists.{total-le-all}
 use Rattle.financing.specs.declared.tally.FinancingTally.{FinancingTally}
 use Rattle.financing.specs.Netting.{nettedFrom, NeverFall}
 use Rattle.financing.specs.Weighing.{noTally, settled, tallied, tallyFrom, nettedIn}

@@ -8,7 +8,7 @@ use lib.Dec.{eqb}
 use lib.ListN.{length}
 use Rattle.rules.specs.Word.{word, kindOf, bitOf, sizeOf}
 use Rattle.rules.specs.Book.{FinancingTrade}
-use Rattle.rules.specs.Run.{Turn, over, bad, some, Run, withOne}
+use Rattle.rules.specs.Run.{over, bad, some, Run, withOne}
 use Rattle.rules.specs.Faults.{cause}
 use Rattle.rules.specs.Read.{lacks, stands, lastDaysAt, financingTradeAt, financingTradeTurn, financingMemberTurn}
 use Rattle.rules.proofs.Along.{Along, along-start, along-over, along-bad, along-one}
@@ -16,7 +16,6 @@ use Rattle.theorems.proofs.Records.{lacks-room}
 use Rattle.records.proofs.Words.{turn-lacks, turn-fault, turn-on}
 use Rattle.theorems.proofs.Records.{stands-is}
 use Rattle.financing.specs.declared.tally.FinancingTally.{FinancingTally}
-use Rattle.financing.specs.declared.trades.Weighed.{Weighed}
 use Rattle.financing.specs.declared.trades.Weighed.the-variants.{Whole, Broken}
 use Rattle.financing.specs.Weighing.{noTally, settled, tallied, tallyFrom, weighedTo, weighedOf, tradesOf, ownFaultAt, tradeFaultAt, Room}
 use Rattle.financing.proofs.Order.{days-first, days-behind}

@@ -1,15 +1,14 @@
 -- The cases of the answers, as the code's matches meet them. Assumes nothing.
-use Prim.Native.Nat.{ℕ, zero, suc, _≤_, _<_}
-use mathlib.Core.Path.{_≡_, refl, sym, _∙_, ap}
-use mathlib.Core.Bool.{Bool, true, false, cond}
+use Prim.Native.Nat.{ℕ, _≤_}
+use mathlib.Core.Path.{_≡_, refl, _∙_, ap}
+use mathlib.Core.Bool.{cond}
 use mathlib.Core.List.{List, _++_}
-use native.Mathlib.Omega.{arith}
 use borrow.Author.Tests.{eq-eqb, ne-eqb}
 use lib.Dec.{eqb}
 use lib.IntN.{ℤ, pos}
 use lib.ListN.{length, drop, List·getD-eq-default}
 use Rattle.rules.specs.declared.Sums.{Sums}
-use Rattle.rules.specs.Word.{word, gainOf, lossOf}
+use Rattle.rules.specs.Word.{word}
 use Rattle.rules.specs.Book.{Head}
 use Rattle.rules.specs.Ratio.{tier1Of, verdictOf}
 use Rattle.rules.specs.Rows.{exposureRow, rowsOf}
@@ -19,7 +18,6 @@ use Rattle.reading.specs.declared.Reading.the-variants.{Whole, Fault}
 use Rattle.register.specs.declared.Settlement.{Settlement}
 use Rattle.leverage.specs.declared.Admission.{Admission}
 use Rattle.leverage.specs.declared.Admission.the-variants.{Early, Within, Admitted}
-use Rattle.leverage.specs.declared.Answer.{Answer}
 use Rattle.leverage.specs.declared.Answer.the-variants.{Refused, Accepted}
 use Rattle.leverage.specs.Answers.{concluded, stopOf, uncleared, answerTo, rowsTo, Publishable}
 
@@ -46,6 +44,9 @@ module _ (r : Reading) (s : Settlement) where
 
 pub stop-whole : (r : Reading) (sums : Sums) (place : ℕ) → r ≡ Whole sums place → cond (eqb (sums .covered) 0) 0 place ≡ stopOf r
 stop-whole r sums place e = rw e
+
+pub stop-fault : (r : Reading) (number place : ℕ) → r ≡ Fault number place → place ≡ stopOf r
+stop-fault r number place e = rw e
 
 module _ (head : Head) (rows : List ℤ) (a : Admission) where
   pub to-early : (number : ℕ) → a ≡ Early number → (Refused number 0 ≡ answerTo head a) × (rows ≡ rowsTo head a rows)

@@ -1,35 +1,29 @@
 -- The filing as a whole: the rows test, the admission, the template. Assumes nothing.
-use Prim.Native.Nat.{ℕ, zero, suc, _+_, _*_, _^_, _≤_, _<_}
-use mathlib.Core.Path.{_≡_, refl, sym, _∙_, ap, ap₂, subst}
-use mathlib.Core.Bool.{Bool, true, false, cond}
-use mathlib.Core.List.{List, [], _∷_, _++_}
+use Prim.Native.Nat.{ℕ, _≤_, _<_}
+use mathlib.Core.Path.{_≡_, refl, sym, _∙_}
+use mathlib.Core.List.{List}
 use native.Mathlib.Omega.{arith}
 use native.Mathlib.Decide.{decLt}
 use borrow.Author.Tests.{lt-ltb, le-ltb}
-use lib.Dec.{ltb}
-use lib.IntN.{ℤ, pos, negsuc, subℕ}
+use lib.IntN.{ℤ, pos, subℕ}
 use lib.ListN.{length}
-use Rattle.rules.specs.declared.Bands.{Bands}
 use Rattle.rules.specs.declared.Entry.{Entry}
-use Rattle.rules.specs.declared.Sums.{Sums}
-use Rattle.rules.specs.Book.{Head, Item, Placed, total}
-use Rattle.rules.specs.Read.{firstRecord, headOf, itemsOf}
-use Rattle.rules.specs.Rows.{sumOver, sumsOf, exposureRow}
-use Rattle.rules.specs.Filing.{Outcome, early, refused, accepted, admission, outcomeOf, registerAfter, Filing, filingOf, filing}
+use Rattle.rules.specs.Book.{Placed}
+use Rattle.rules.specs.Read.{headOf}
+use Rattle.rules.specs.Rows.{sumOver, sumsOf}
+use Rattle.rules.specs.Filing.{Outcome, early, refused, accepted, admission, outcomeOf, registerAfter, filingOf, filing}
 use Rattle.rules.proofs.Lists.{total-le-all}
 use Rattle.rules.proofs.Differences.{sub-neg}
 use Rattle.theorems.specs.Exposure.{exposureOf}
 use Rattle.theorems.proofs.Accepted.{accepted-is}
 use Rattle.theorems.proofs.ExposureSum.{exposure-row-is, exposure-is-sum}
-use Rattle.theorems.proofs.MemberBounds.{perWord}
 use Rattle.theorems.proofs.ItemBounds.{itemWeight, items-small}
 use Rattle.theorems.proofs.ItemRows.{allRows, rows-at-most, sums-total}
 use Rattle.template.specs.Sections.{Small}
 use Rattle.leverage.specs.declared.Admission.{Admission}
-use Rattle.leverage.specs.declared.Admission.the-variants.{Early, Within, Admitted}
 use Rattle.leverage.specs.declared.Answer.{Answer}
-use Rattle.leverage.specs.declared.Answer.the-variants.{Refused, Accepted}
-use Rattle.leverage.specs.Answers.{numberIn, placeIn, verdictOfAnswer, admissionOf, answerTo, rowsTo, Publishable, filed}
+use Rattle.leverage.specs.declared.Answer.the-variants.{Refused}
+use Rattle.leverage.specs.Answers.{admissionOf, answerTo, rowsTo, Publishable, filed}
 use Rattle.leverage.proofs.StageLaws.{head-good}
 
 -- ---- the sums of an accepted book fit the rows

@@ -1,19 +1,15 @@
 -- The covers that the settling pass meets, record by record, are those of the items that the reading reads: up to the place at which the
 -- reading stops, in a refused book too. Assumes nothing.
-use Prim.Native.Nat.{ℕ, zero, suc, _+_, _-_, _*_, _≤_, _<_}
+use Prim.Native.Nat.{ℕ, zero, suc, _+_, _-_, _≤_, _<_}
 use mathlib.Core.Path.{_≡_, refl, sym, _∙_, ap, subst}
-use mathlib.Core.Bool.{Bool, true, false, not, cond}
 use mathlib.Core.List.{List, [], _∷_, _++_, append-assoc}
 use native.Mathlib.Omega.{arith}
 use native.Mathlib.Nat.{le-refl}
-use borrow.Author.Tests.{eqb-true, eqb-false, leb-true, leb-false, le-leb, lt-leb, eq-eqb, ne-eqb, not-false}
-use lib.Dec.{eqb, leb}
-use lib.ListN.{length, drop, length-drop}
-use lib.Seq.{getD-drop}
+use borrow.Author.Tests.{le-leb, lt-leb, eq-eqb, ne-eqb}
 use Rattle.rules.specs.declared.Draw.{Draw}
-use Rattle.rules.specs.Word.{word, kindOf, amountsOfKind, amountsIn}
-use Rattle.rules.specs.Run.{Turn, over, bad, some, Run, ended, withOne, thenRun, runFrom, sound}
-use Rattle.rules.specs.Read.{lacks, recordThen, stands}
+use Rattle.rules.specs.Word.{word, kindOf, amountsOfKind}
+use Rattle.rules.specs.Run.{Turn, over, bad, some, thenRun, runFrom}
+use Rattle.rules.specs.Read.{stands}
 use Rattle.register.specs.declared.Cursor.{Cursor}
 use Rattle.register.specs.Scan.{opened, taken, passed, drawAt, scanFrom}
 

@@ -1,14 +1,13 @@
 -- The book: the settling pass meets just the protections and the covers that the reading reads. Assumes nothing.
-use Prim.Native.Nat.{ℕ, zero, suc, _+_, _-_, _*_, _≤_, _<_}
+use Prim.Native.Nat.{ℕ, zero, suc, _+_, _-_, _≤_, _<_}
 use mathlib.Core.Path.{_≡_, refl, sym, _∙_, ap, subst}
 use mathlib.Core.Bool.{Bool, true, false, not, cond}
 use mathlib.Core.List.{List, [], _∷_, _++_, map, append-nil}
 use native.Mathlib.Omega.{arith}
-use native.Mathlib.Nat.{add-zero, zero-add, le-refl}
-use borrow.Author.Tests.{eqb-true, eqb-false, leb-true, leb-false, le-leb, ne-eqb, not-false}
+use native.Mathlib.Nat.{zero-add, le-refl}
+use borrow.Author.Tests.{eqb-true, leb-true, leb-false, le-leb, ne-eqb}
 use lib.Dec.{eqb, leb}
 use lib.ListN.{length, drop, length-drop}
-use lib.Seq.{getD-drop}
 use Rattle.rules.specs.declared.Bands.{Bands}
 use Rattle.rules.specs.declared.Draw.{Draw}
 use Rattle.rules.specs.declared.Entry.{Entry}
@@ -17,14 +16,14 @@ use Rattle.rules.specs.Book.{Protection, Item, asset, derivatives, financing, o
 use Rattle.rules.specs.Faults.{protectionFault}
 use Rattle.rules.specs.Run.{Turn, over, bad, some, Run, ended, thenRun, runFrom, sound}
 use Rattle.rules.specs.Read.{firstRecord, headOf, lacks, recordThen, protectionAt, protectionTurn, assetAt, assetTurn, memberTurn, derivativeSetAt, withMembers, derivativeSetTurn, financingMemberTurn, financingSetAt, withTrades, financingSetTurn, offBalanceAt, offBalanceTurn, itemOf, placed, endFault, itemTurn, protectionsOf, itemsAfter, itemsOf}
-use Rattle.rules.specs.Register.{entryOf, drawsOf, drawsIn, drawsOver, Settled, settled, settle}
-use Rattle.rules.specs.Filing.{Outcome, refused, accepted, judged, recordsOutcome}
-use Rattle.rules.proofs.Runs.{FineTurn, FineRun, fine-run}
+use Rattle.rules.specs.Register.{entryOf, drawsIn, drawsOver, settle}
+use Rattle.rules.specs.Filing.{judged, recordsOutcome}
+use Rattle.rules.proofs.Runs.{FineTurn, fine-run}
+use Rattle.theorems.proofs.Records.{head-word}
 use Rattle.theorems.proofs.MemberBounds.{perWord}
 use Rattle.theorems.proofs.ItemBounds.{placedWeight, fine-item-turn, nothing, fine-protection}
-use Rattle.register.specs.declared.Cursor.{Cursor}
-use Rattle.register.specs.Scan.{protectionPlace, loadedFrom, cursorBehind, scanFrom, scanned}
-use Rattle.leverage.proofs.Scanned.{Scan, scan-is, AnyScan, any-done, any-other, Here, run-met}
+use Rattle.register.specs.Scan.{protectionPlace, loadedFrom, scanFrom, scanned}
+use Rattle.leverage.proofs.Scanned.{scan-is, AnyScan, any-done, any-other, Here, run-met}
 use Rattle.leverage.proofs.ScannedItems.{record-elim, members-met, financing-met}
 
 -- ---- a fault of an item's head stands at the head
@@ -66,7 +65,7 @@ module _ (ws : List ℕ) (stop : ℕ) (bands : Bands) (at : ℕ) (h : at < lengt
 
   -- the head of the item, as a word of the book
   head-kind : (kind : ℕ) → kindOf (word (drop at ws) 0) ≡ kind → kindOf (word ws at) ≡ kind
-  head-kind kind e = ap kindOf (sym (getD-drop at ws 0 0 ∙ ap (λ (i : ℕ). word ws i) (add-zero at))) ∙ e
+  head-kind kind e = ap kindOf (sym (head-word ws at)) ∙ e
 
   faulty : (n : ℕ) → Found (bad n 0)
   unfolding Found

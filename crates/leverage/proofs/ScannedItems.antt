@@ -1,27 +1,24 @@
 -- The covers of each kind of item, as the settling pass meets them. Places count from the item's head, which stands at `begin` of the
 -- book. Assumes nothing.
-use Prim.Native.Nat.{ℕ, zero, suc, _+_, _-_, _*_, _≤_, _<_}
+use Prim.Native.Nat.{ℕ, zero, suc, _+_, _-_, _≤_, _<_}
 use mathlib.Core.Path.{_≡_, refl, sym, _∙_, ap, subst}
-use mathlib.Core.Bool.{Bool, true, false, not, cond}
-use mathlib.Core.List.{List, [], _∷_, _++_, append-assoc}
+use mathlib.Core.Bool.{Bool, true, false, cond}
+use mathlib.Core.List.{List, [], _∷_, _++_}
 use native.Mathlib.Omega.{arith}
 use native.Mathlib.Nat.{add-assoc}
-use borrow.Author.Tests.{eqb-true, eqb-false, leb-true, leb-false, not-false}
-use lib.Dec.{eqb, leb}
-use lib.ListN.{length, drop, length-drop}
+use lib.ListN.{length, drop}
 use lib.Seq.{getD-drop}
 use Rattle.rules.specs.declared.Draw.{Draw}
-use Rattle.rules.specs.Word.{word, kindOf, sizeOf, fieldOf, amountsOfKind, amountsIn}
-use Rattle.rules.specs.Book.{Cover, WrittenCredit, Member, trade, written, DerivativeSet, FinancingTrade, Item, asset, derivatives, financing, offBalance, Placed}
-use Rattle.rules.specs.Run.{Turn, over, bad, some, Run, ended, withOne, thenRun, runFrom, sound}
+use Rattle.rules.specs.Word.{word, kindOf, sizeOf, fieldOf, amountsOfKind}
+use Rattle.rules.specs.Book.{Cover, WrittenCredit, Member, trade, written, FinancingTrade, financing}
+use Rattle.rules.specs.Run.{Turn, over, bad, some, Run, thenRun, runFrom, sound}
 use Rattle.rules.specs.Read.{lacks, recordThen, stands, coverAt, coverTurn, writtenAt, withCovers, writtenTurn, tradeAt, tradeTurn, memberTurn, financingTradeTurn, financingMemberTurn}
 use Rattle.rules.specs.declared.Bands.{Bands}
 use Rattle.rules.specs.Register.{drawsFrom, drawsOf}
 use Rattle.rules.proofs.Runs.{FineTurn}
 use Rattle.theorems.proofs.MemberBounds.{perWord, memberWeight, fine-member, financingWeight, fine-financing-member}
 use Rattle.theorems.proofs.Records.{stands-is, lacks-room}
-use Rattle.register.specs.declared.Cursor.{Cursor}
-use Rattle.register.specs.Scan.{opened, taken, passed, drawAt}
+use Rattle.register.specs.Scan.{opened}
 use Rattle.leverage.proofs.Scanned.{Scan, cover, credit, AnyScan, any-other, Here, run-met}
 
 -- ---- what a record comes to: a fault of its own, or what follows its words

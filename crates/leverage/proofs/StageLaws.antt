@@ -1,25 +1,23 @@
 -- The stages of a filing, from what each part of the code answers to the definitions. Assumes nothing.
-use Prim.Native.Nat.{ℕ, zero, suc, _+_, _*_, _^_, _≤_, _<_}
-use mathlib.Core.Path.{_≡_, refl, sym, _∙_, ap, ap₂, subst}
+use Prim.Native.Nat.{ℕ, zero, suc, _+_, _^_, _≤_}
+use mathlib.Core.Path.{_≡_, refl, sym, _∙_, ap, ap₂}
 use mathlib.Core.Bool.{Bool, true, false, not, _||_, cond}
 use mathlib.Core.List.{List, [], _∷_, _++_}
 use native.Mathlib.Omega.{arith}
-use borrow.Author.Tests.{ltb-false, ltb-true, lt-ltb, le-ltb, le-leb, eqb-true, eq-eqb, ne-eqb}
+use borrow.Author.Tests.{ltb-false, le-leb, eqb-true, ne-eqb}
 use lib.Dec.{eqb, ltb}
-use lib.IntN.{ℤ}
 use lib.ListN.{length, drop, replicate}
 use lib.Seq.{drop-at}
 use Rattle.rules.specs.declared.Bands.{Bands}
 use Rattle.rules.specs.declared.Draw.{Draw}
 use Rattle.rules.specs.declared.Entry.{Entry}
-use Rattle.rules.specs.declared.Sums.{Sums}
 use Rattle.rules.specs.Word.{word, kindOf, payloadOf, minusZero}
 use Rattle.rules.specs.Book.{Head, Protection, Placed}
 use Rattle.rules.specs.Run.{Run, ended, runFrom}
 use Rattle.rules.specs.Read.{firstRecord, headFaulty, headOf, protectionTurn, itemTurn, protectionsOf, itemsOf}
-use Rattle.rules.specs.Register.{blank, entryOf, drawFault, drawn, Settled, unfit, settled, ifFit, settle}
+use Rattle.rules.specs.Register.{blank, drawFault, drawn, Settled, unfit, settled, ifFit, settle}
 use Rattle.rules.specs.Rows.{sumsOf}
-use Rattle.rules.specs.Filing.{Outcome, early, refused, accepted, judged, recordsOutcome, admission, outcomeOf, registerAfter, Filing, filingOf, filing}
+use Rattle.rules.specs.Filing.{Outcome, early, refused, accepted, judged, recordsOutcome, admission, registerAfter, filing}
 use Rattle.rules.proofs.Lists.{or-left, or-right}
 use Rattle.rules.proofs.Runs.{fine-run}
 use Rattle.theorems.proofs.MemberBounds.{perWord}
@@ -32,11 +30,8 @@ use Rattle.reading.specs.Steps.{readingOf}
 use Rattle.register.specs.declared.Settlement.{Settlement}
 use Rattle.register.specs.Scan.{protectionPlace, loadedFrom, scanFrom, scanned}
 use Rattle.register.specs.Draws.{answerOf, registerOf}
-use Rattle.leverage.specs.declared.Admission.{Admission}
-use Rattle.leverage.specs.declared.Admission.the-variants.{Early, Within, Admitted}
-use Rattle.leverage.specs.declared.Answer.{Answer}
-use Rattle.leverage.specs.declared.Answer.the-variants.{Refused, Accepted}
-use Rattle.leverage.specs.Answers.{numberIn, placeIn, verdictOfAnswer, earlyNumber, stopOf, concluded, uncleared, admissionOf, answerTo, rowsTo}
+use Rattle.leverage.specs.declared.Admission.the-variants.{Within}
+use Rattle.leverage.specs.Answers.{earlyNumber, stopOf, concluded, uncleared, admissionOf}
 use Rattle.leverage.proofs.ScannedBook.{records-are, draws-are}
 
 -- ---- before the records

@@ -1,14 +1,13 @@
 -- Document 01, "Where an answer is an enum, the promises use a definition": the number, place and verdict of each case; and the stages of
 -- a filing as the code has them. Assumes nothing.
 use Prim.Native.Nat.{ℕ, _+_, _*_, _%_, _^_}
-use mathlib.Core.Bool.{Bool, true, false, cond}
+use mathlib.Core.Bool.{Bool, false, cond}
 use mathlib.Core.List.{List, _++_}
 use lib.Dec.{eqb, ltb}
 use lib.IntN.{ℤ}
 use lib.ListN.{length, drop}
 use Rattle.rules.specs.declared.Bands.{Bands}
 use Rattle.rules.specs.declared.Entry.{Entry}
-use Rattle.rules.specs.declared.Sums.{Sums}
 use Rattle.rules.specs.Book.{Head}
 use Rattle.rules.specs.Read.{headFaulty, headOf}
 use Rattle.rules.specs.Ratio.{tier1Of, verdictOf}

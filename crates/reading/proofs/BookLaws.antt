@@ -1,26 +1,24 @@
 -- The protections, and then the items; and an item by its kind. Assumes nothing.
-use Prim.Native.Nat.{ℕ, zero, suc, _+_, _≤_, _<_}
-use mathlib.Core.Path.{_≡_, refl, sym, _∙_, ap}
+use Prim.Native.Nat.{ℕ, suc, _≤_}
+use mathlib.Core.Path.{_≡_, refl, sym, _∙_}
 use mathlib.Core.Bool.{Bool, true, false, cond}
 use mathlib.Core.List.{List}
 use native.Mathlib.Omega.{arith}
-use borrow.Author.Tests.{eq-eqb, ne-eqb, eqb-true, eqb-false}
+use borrow.Author.Tests.{ne-eqb}
 use lib.Dec.{eqb}
 use lib.ListN.{length}
 use Rattle.rules.specs.declared.Bands.{Bands}
 use Rattle.rules.specs.declared.Sums.{Sums}
 use Rattle.rules.specs.Word.{word, kindOf, payloadOf}
-use Rattle.rules.specs.Book.{Protection, Placed}
-use Rattle.rules.specs.Run.{Run, ended, runFrom}
-use Rattle.rules.specs.Read.{firstRecord, headOf, assetTurn, derivativeSetTurn, financingSetTurn, offBalanceTurn, itemOf, itemTurn, protectionTurn, protectionsOf, itemsAfter, itemsOf}
-use Rattle.rules.proofs.Runs.{FineRun, fine-run}
+use Rattle.rules.specs.Run.{runFrom}
+use Rattle.rules.specs.Read.{firstRecord, headOf, assetTurn, derivativeSetTurn, financingSetTurn, offBalanceTurn, itemOf, itemTurn, protectionTurn, protectionsOf, itemsOf}
+use Rattle.rules.proofs.Runs.{fine-run}
 use Rattle.theorems.proofs.MemberBounds.{perWord}
 use Rattle.theorems.proofs.ItemBounds.{nothing, fine-protection}
 use Rattle.records.specs.declared.ItemStep.{ItemStep}
 use Rattle.records.specs.declared.ItemStep.the-variants.{Stop}
 use Rattle.records.specs.Step.{itemStep}
-use Rattle.reading.specs.declared.Reading.{Reading}
-use Rattle.reading.specs.declared.Reading.the-variants.{Whole, Fault}
+use Rattle.reading.specs.declared.Reading.the-variants.{Fault}
 use Rattle.reading.specs.declared.protections.Protections.{Protections}
 use Rattle.reading.specs.declared.protections.Protections.the-variants.{Upto, Wrong}
 use Rattle.reading.specs.Steps.{placeOf, readingOf}

@@ -1,37 +1,30 @@
 -- What stands where an item is due, and the loop over the items. Assumes nothing.
-use Prim.Native.Nat.{ℕ, zero, suc, _+_, _-_, _*_, _^_, _≤_, _<_}
-use mathlib.Core.Path.{_≡_, refl, sym, _∙_, ap}
-use mathlib.Core.Bool.{Bool, true, false, not, _||_, cond}
-use mathlib.Core.List.{List, [], _∷_}
+use Prim.Native.Nat.{ℕ, zero, suc, _+_, _-_, _≤_, _<_}
+use mathlib.Core.Path.{_≡_, sym, _∙_, ap}
+use mathlib.Core.Bool.{Bool, true, false, not, cond}
+use mathlib.Core.List.{List}
 use native.Mathlib.Omega.{arith}
-use native.Mathlib.Nat.{add-assoc, zero-add}
-use borrow.Author.Tests.{le-leb, lt-leb, eq-eqb, ne-eqb, leb-false}
+use borrow.Author.Tests.{le-leb, lt-leb, eq-eqb, ne-eqb}
 use lib.Dec.{eqb, leb}
 use lib.ListN.{length, take, drop, length-drop}
 use lib.Seq.{take-all}
 use Rattle.rules.specs.declared.Bands.{Bands}
 use Rattle.rules.specs.declared.Sums.{Sums}
 use Rattle.rules.specs.Word.{word, kindOf, payloadOf, amountsIn}
-use Rattle.rules.specs.Book.{Item, Placed, total}
+use Rattle.rules.specs.Book.{Item, Placed}
 use Rattle.rules.specs.Faults.{cause}
-use Rattle.rules.specs.Run.{Turn, over, bad, some, Run, ended, withOne, runFrom, sound}
+use Rattle.rules.specs.Run.{Turn, over, bad, some, sound}
 use Rattle.rules.specs.Read.{lacks, recordThen, assetTurn, derivativeSetTurn, financingSetTurn, offBalanceTurn, itemOf, placed, endFault, itemTurn}
-use Rattle.rules.specs.Rows.{row1, row2, row4, row5, row6, row7, row8, row9, row10, row12, row13, row14, row15, row17, row18, sumOver, sumsOf}
 use Rattle.rules.proofs.Runs.{FineTurn}
-use Rattle.rules.proofs.Along.{Along, along-start, along-over, along-bad, along-broken, along-one}
 use Rattle.theorems.proofs.Conserve.{Filled}
 use Rattle.theorems.proofs.Conserve
 use Rattle.theorems.proofs.MemberBounds.{perWord}
-use Rattle.theorems.proofs.ItemBounds.{itemWeight, placedWeight, fine-item-turn}
-use Rattle.theorems.proofs.ItemRows.{allRows, rows-at-most}
+use Rattle.theorems.proofs.ItemBounds.{placedWeight, fine-item-turn}
 use Rattle.records.specs.declared.ItemStep.{ItemStep}
 use Rattle.records.specs.declared.ItemStep.the-variants.{Next, Stop}
-use Rattle.records.specs.Step.{plusItem, itemStep, Roomy}
-use Rattle.reading.specs.declared.Reading.{Reading}
-use Rattle.reading.specs.declared.Reading.the-variants.{Whole, Fault}
-use Rattle.reading.specs.declared.items.ItemAnswer.{ItemAnswer}
+use Rattle.records.specs.Step.{plusItem, itemStep}
 use Rattle.reading.specs.declared.items.ItemAnswer.the-variants.{More, End, Halt}
-use Rattle.reading.specs.Steps.{itemAnswer, readingOf}
+use Rattle.reading.specs.Steps.{itemAnswer}
 
 -- ---- an item's turn has an item or a fault
 

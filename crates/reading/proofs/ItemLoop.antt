@@ -1,28 +1,27 @@
 -- The loop over the items: the sums so far, and the items that are left. Assumes nothing.
 use Prim.Native.Nat.{ℕ, zero, suc, _+_, _-_, _*_, _^_, _≤_, _<_}
-use mathlib.Core.Path.{_≡_, refl, sym, _∙_, ap}
-use mathlib.Core.Bool.{Bool, true, false, cond}
-use mathlib.Core.List.{List, [], _∷_}
+use mathlib.Core.Path.{_≡_, refl}
+use mathlib.Core.Bool.{cond}
+use mathlib.Core.List.{List}
 use native.Mathlib.Omega.{arith}
 use native.Mathlib.Nat.{add-assoc, zero-add}
-use borrow.Author.Tests.{eq-eqb, ne-eqb}
+use borrow.Author.Tests.{ne-eqb}
 use lib.Dec.{eqb}
 use lib.ListN.{length}
 use Rattle.rules.specs.declared.Bands.{Bands}
 use Rattle.rules.specs.declared.Sums.{Sums}
-use Rattle.rules.specs.Book.{Item, Placed, total}
-use Rattle.rules.specs.Run.{Turn, over, bad, some, Run, ended, withOne, runFrom}
+use Rattle.rules.specs.Book.{Placed}
+use Rattle.rules.specs.Run.{Turn, over, bad, some, Run, withOne, runFrom}
 use Rattle.rules.specs.Read.{itemTurn}
 use Rattle.rules.specs.Rows.{row1, row2, row4, row5, row6, row7, row8, row9, row10, row12, row13, row14, row15, row17, row18, sumOver, sumsOf}
 use Rattle.rules.proofs.Runs.{FineTurn}
 use Rattle.rules.proofs.Along.{Along, along-start, along-over, along-bad, along-broken, along-one}
 use Rattle.theorems.proofs.MemberBounds.{perWord}
-use Rattle.theorems.proofs.ItemBounds.{itemWeight, placedWeight, fine-item-turn}
-use Rattle.theorems.proofs.ItemRows.{allRows, rows-at-most}
+use Rattle.theorems.proofs.ItemBounds.{placedWeight, fine-item-turn}
+use Rattle.theorems.proofs.ItemRows.{rows-at-most}
 use Rattle.records.specs.Step.{plusItem, Roomy}
 use Rattle.reading.specs.declared.Reading.{Reading}
 use Rattle.reading.specs.declared.Reading.the-variants.{Whole, Fault}
-use Rattle.reading.specs.declared.items.ItemAnswer.{ItemAnswer}
 use Rattle.reading.specs.declared.items.ItemAnswer.the-variants.{More, End, Halt}
 use Rattle.reading.specs.Steps.{itemAnswer, readingOf, allSums, Fair, Leads}
 use Rattle.reading.proofs.ItemLaws.{Proper, proper-turn}
@@ -192,12 +191,6 @@ past bands ws whole s from i {t} {u} {at} {next} l m =
 module _ (bands : Bands) (ws : List ℕ) (s : Sums) (from : ℕ) (f : Fair ws s from) {t : Sums} {at : ℕ} (l : Leads bands ws s from t at) where
   there : (from ≤ at) × AtItem bands ws (resumed bands s (runFrom (itemTurn ws) (suc (length ws)) from)) t at
   there = led bands ws _ s from (record { along = along-start (length ws) (itemTurn ws) (resumed bands) _ s from (f .within) refl; small = f .small }) l
-
-  pub onward : from ≤ at
-  onward = there .0
-
-  pub fair-there : Fair ws t at
-  fair-there = record { within = there .1 .along .within; short = f .short; small = there .1 .small }
 
   pub roomy-there : Roomy t
   roomy-there = roomy bands ws _ t at (there .1) (f .short)

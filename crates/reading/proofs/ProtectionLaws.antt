@@ -1,17 +1,16 @@
 -- What stands where a protection is due, and the loop over the protections. Assumes nothing.
 use Prim.Native.Nat.{ℕ, zero, suc, _+_, _-_, _≤_, _<_}
 use mathlib.Core.Path.{_≡_, refl, sym, _∙_, ap}
-use mathlib.Core.Bool.{Bool, true, false, cond}
+use mathlib.Core.Bool.{Bool, true, false}
 use mathlib.Core.List.{List}
 use native.Mathlib.Omega.{arith}
 use native.Mathlib.Numerals.{sub-one}
 use borrow.Author.Tests.{le-leb, lt-leb, eq-eqb, ne-eqb}
-use lib.Dec.{eqb}
 use lib.ListN.{length}
 use Rattle.rules.specs.Word.{word, kindOf}
 use Rattle.rules.specs.Book.{Protection}
 use Rattle.rules.specs.Faults.{protectionFault}
-use Rattle.rules.specs.Run.{Turn, over, bad, some, Run, ended, thenRun, runFrom}
+use Rattle.rules.specs.Run.{Turn, over, some, Run, thenRun, runFrom}
 use Rattle.rules.specs.Read.{lacks, recordThen, protectionAt, protectionTurn}
 use Rattle.rules.proofs.Runs.{FineTurn}
 use Rattle.theorems.proofs.Conserve.{Filled, protection-filled}

@@ -4,14 +4,12 @@ use mathlib.Core.Path.{_≡_, refl, sym, _∙_, ap}
 use mathlib.Core.Bool.{Bool, true}
 use mathlib.Core.List.{List}
 use native.Mathlib.Omega.{arith}
-use native.Mathlib.Nat.{add-zero}
 use lib.ListN.{length, take, drop, length-drop}
-use lib.Seq.{getD-drop}
 use Rattle.rules.specs.declared.Bands.{Bands}
 use Rattle.rules.specs.declared.Sums.{Sums}
 use Rattle.rules.specs.Word.{word, kindOf}
 use Rattle.rules.specs.Read.{stands, itemOf, itemTurn}
-use Rattle.theorems.proofs.Records.{stands-is}
+use Rattle.theorems.proofs.Records.{stands-is, head-word}
 use Rattle.records.specs.declared.ItemStep.{ItemStep}
 use Rattle.records.specs.declared.ItemStep.the-variants.{Next}
 use Rattle.records.specs.Step.{itemStep, Part, Roomy}
@@ -52,7 +50,7 @@ module _ {bands : Bands} {ws : List ℕ} {s : Sums} {from : ℕ} {t : Sums} {at 
   pub kind-of : kindOf (word part 0) ≡ k
   kind-of =
       ap (λ (p : List ℕ). kindOf (word p 0)) (from-is ws at)
-      ∙ ap kindOf (getD-drop at ws 0 0 ∙ ap (λ (i : ℕ). word ws i) (add-zero at))
+      ∙ ap kindOf (head-word ws at)
       ∙ m .kind
 
   module _ (ke : k ≡ 15 → ⊥) (r : ItemStep) (q : r ≡ itemStep bands t (itemOf part)) (sums : Sums) (next : ℕ) (e : r ≡ Next sums next) where

@@ -1,14 +1,14 @@
 -- What each return of `asset` answers. Assumes nothing.
-use Prim.Native.Nat.{ℕ, _+_, _-_, _*_, _≤_}
+use Prim.Native.Nat.{ℕ, _+_, _-_, _≤_}
 use mathlib.Core.Path.{_≡_, refl, sym, _∙_, ap}
-use mathlib.Core.Bool.{Bool, true, false, cond}
+use mathlib.Core.Bool.{Bool, true, false}
 use mathlib.Core.List.{List}
 use native.Mathlib.Nat.{add-zero}
 use borrow.Author.Tests.{ltb-false}
 use Rattle.rules.specs.declared.Bands.{Bands}
 use Rattle.rules.specs.declared.Sums.{Sums}
 use Rattle.rules.specs.Word.{word, kindOf, bitOf, sizeOf}
-use Rattle.rules.specs.Book.{Item, asset}
+use Rattle.rules.specs.Book.{asset}
 use Rattle.rules.specs.Faults.{assetFault}
 use Rattle.rules.specs.Read.{lacks, assetAt, assetTurn}
 use Rattle.rules.specs.Rows.{assetRows}

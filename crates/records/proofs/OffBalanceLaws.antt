@@ -1,6 +1,6 @@
 -- What each return of `off_balance` answers. Assumes nothing.
-use Prim.Native.Nat.{ℕ, _+_, _-_, _*_, _^_, _≤_, _<_}
-use mathlib.Core.Path.{_≡_, refl, sym, _∙_, ap}
+use Prim.Native.Nat.{ℕ, _-_, _*_, _^_, _≤_, _<_}
+use mathlib.Core.Path.{_≡_, sym, _∙_, ap}
 use mathlib.Core.Bool.{Bool, true, false}
 use mathlib.Core.List.{List}
 use native.Mathlib.Omega.{arith}
@@ -8,7 +8,7 @@ use native.Mathlib.Nat.{add-zero, mul-le-mul-right}
 use Rattle.rules.specs.declared.Bands.{Bands}
 use Rattle.rules.specs.declared.Sums.{Sums}
 use Rattle.rules.specs.Word.{word, kindOf}
-use Rattle.rules.specs.Book.{Item, offBalance}
+use Rattle.rules.specs.Book.{offBalance}
 use Rattle.rules.specs.Faults.{offBalanceFault}
 use Rattle.rules.specs.Read.{lacks, offBalanceAt, offBalanceTurn}
 use Rattle.records.specs.declared.ItemStep.the-variants.{Next, Stop}

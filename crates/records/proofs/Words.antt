@@ -1,18 +1,17 @@
 -- The words behind a place, one by one from the last; what `lacking` and `standing` tell; and a record's turn by them.
 -- Assumes nothing.
 use Prim.Native.Nat.{ℕ, zero, suc, _+_, _-_, _≤_, _<_}
-use mathlib.Core.Path.{_≡_, refl, sym, _∙_, ap}
-use mathlib.Core.Bool.{Bool, true, false, not, _||_, cond, or-assoc, or-false}
+use mathlib.Core.Path.{_≡_, refl, sym, _∙_}
+use mathlib.Core.Bool.{Bool, true, false, not, _||_, or-assoc, or-false}
 use mathlib.Core.List.{List}
 use native.Mathlib.Omega.{arith}
 use native.Mathlib.Numerals.{sub-one}
-use borrow.Author.Tests.{le-leb, lt-leb, eq-eqb, ne-eqb, le-ltb, lt-ltb}
-use lib.Dec.{leb, ltb, eqb}
+use borrow.Author.Tests.{le-leb, lt-leb, le-ltb, lt-ltb}
+use lib.Dec.{eqb}
 use lib.ListN.{length}
-use Rattle.rules.specs.Word.{word, kindOf, amountsOfKind, amountsIn}
+use Rattle.rules.specs.Word.{word, kindOf, amountsOfKind}
 use Rattle.rules.specs.Run.{Turn, bad, sound}
 use Rattle.rules.specs.Read.{lacks, recordThen, stands}
-use Rattle.rules.proofs.Lists.{or-true}
 use Rattle.theorems.proofs.Records.{lacks-room}
 
 -- ---- the loop of `lacking`: i is what it has come to, and `other` what it has seen of the words behind

@@ -7,7 +7,6 @@ use lib.Dec.{eqb, leb}
 use Rattle.rules.specs.declared.Draw.{Draw}
 use Rattle.rules.specs.declared.Entry.{Entry}
 use Rattle.rules.specs.Word.{word, kindOf, fieldOf, sizeOf, amountsIn}
-use Rattle.rules.specs.Book.{Protection}
 use Rattle.rules.specs.Read.{firstRecord, protectionAt}
 use Rattle.rules.specs.Register.{entryOf}
 use Rattle.register.specs.declared.Cursor.{Cursor}

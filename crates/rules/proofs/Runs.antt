@@ -1,12 +1,11 @@
 -- Laws of a run, once for every kind of record: what holds of all its records, how far it reaches and how large a sum over it is, and
 -- two runs side by side. Assumes nothing.
 use Prim.Native.Nat.{ℕ, zero, suc, _+_, _*_, _≤_, _<_}
-use mathlib.Core.Path.{_≡_, refl, sym, _∙_, ap}
+use mathlib.Core.Path.{_≡_, refl}
 use mathlib.Core.Bool.{Bool, true, false, cond}
-use mathlib.Core.List.{List, [], _∷_}
 use native.Mathlib.Omega.{arith}
 use Rattle.rules.specs.Book.{total}
-use Rattle.rules.specs.Run.{Turn, over, bad, some, Run, ended, withOne, thenRun, runFrom, sound}
+use Rattle.rules.specs.Run.{Turn, over, bad, some, Run, thenRun, runFrom, sound}
 use Rattle.rules.proofs.Lists.{Every, Pairs}
 use Rattle.rules.proofs.Lists
 

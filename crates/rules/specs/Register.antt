@@ -7,7 +7,7 @@ use lib.Dec.{eqb, leb, ltb}
 use lib.ListN.{length, getD, set}
 use Rattle.rules.specs.declared.Draw.{Draw}
 use Rattle.rules.specs.declared.Entry.{Entry}
-use Rattle.rules.specs.Book.{Protection, Cover, WrittenCredit, Member, trade, written, DerivativeSet, Item, asset, derivatives, financing, offBalance, Placed}
+use Rattle.rules.specs.Book.{Protection, Cover, WrittenCredit, Member, trade, written, Item, asset, derivatives, financing, offBalance, Placed}
 use Rattle.rules.specs.Faults.{cause}
 
 -- the entry "all zero"

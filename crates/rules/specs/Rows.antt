@@ -1,7 +1,7 @@
 -- Document 01, "Rows": what each item puts into each row, in thousandths of the unit, and the twenty-two rows. Rows 2, 7, 8, 10, 13
 -- and 18 are negative in the template; here stand their sizes. Assumes nothing.
 use Prim.Native.Nat.{ℕ, _+_, _-_, _*_}
-use mathlib.Core.Bool.{Bool, not, cond}
+use mathlib.Core.Bool.{not, cond}
 use mathlib.Core.List.{List, [], _∷_}
 use lib.IntN.{ℤ, pos, negℤ, _+ℤ_}
 use Rattle.rules.specs.declared.Bands.{Bands}

@@ -11,7 +11,6 @@ use Rattle.rules.specs.declared.Bands.{Bands}
 use Rattle.rules.specs.declared.Entry.{Entry}
 use Rattle.rules.specs.Word.{word, marksIn}
 use Rattle.rules.specs.Book.{Item, asset, derivatives, financing, offBalance, Placed}
-use Rattle.rules.specs.Run.{Run}
 use Rattle.rules.specs.Read.{headOf, itemsOf}
 use Rattle.rules.specs.Rows.{tallyIn, grossWeighted}
 use Rattle.rules.specs.Filing.{Filing, filing}

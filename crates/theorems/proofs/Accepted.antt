@@ -1,7 +1,7 @@
 -- What an accepted book is known by: it is not too long, its head is good, the register is long enough, its reading ends without a
 -- fault and its covers all fit. And the number is 0 just where a book is accepted. Assumes nothing.
 use Prim.Native.Nat.{ℕ, zero, suc, _≤_, _^_}
-use mathlib.Core.Path.{_≡_, refl, sym, _∙_, ap}
+use mathlib.Core.Path.{_≡_, refl}
 use mathlib.Core.Bool.{Bool, true, false, cond}
 use mathlib.Core.List.{List, [], _∷_, map}
 use native.Mathlib.Omega.{arith}

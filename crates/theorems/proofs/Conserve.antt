@@ -1,27 +1,26 @@
 -- Conservation: for each protection, the covers naming it in an accepted book plus what is left equal its available amount.
 -- Assumes nothing.
-use Prim.Native.Nat.{ℕ, zero, suc, _+_, _-_, _≤_, _<_}
+use Prim.Native.Nat.{ℕ, zero, suc, _+_, _-_, _<_}
 use mathlib.Core.Path.{_≡_, refl, sym, _∙_, ap}
 use mathlib.Core.Bool.{Bool, true, false, not, cond}
-use mathlib.Core.List.{List, [], _∷_, _++_, map}
+use mathlib.Core.List.{List, [], _∷_, map}
 use native.Mathlib.Omega.{arith}
 use borrow.Author.Tests.{eqb-true}
 use lib.Dec.{eqb, leb}
 use lib.ListN.{length, getD, List·getD-map}
-use Rattle.rules.specs.declared.Draw.{Draw}
 use Rattle.rules.specs.declared.Entry.{Entry}
 use Rattle.rules.specs.Word.{word, kindOf, amountsIn}
 use Rattle.rules.specs.Book.{Protection, Cover, WrittenCredit, Member, trade, written, Item, asset, derivatives, financing, offBalance, Placed, total}
-use Rattle.rules.specs.Run.{Turn, over, bad, some, Run, ended, withOne, thenRun, runFrom, sound}
+use Rattle.rules.specs.Run.{Turn, bad, some, ended, thenRun, runFrom, sound}
 use Rattle.rules.specs.Faults.{protectionFault}
 use Rattle.rules.specs.Read.{firstRecord, headOf, lacks, recordThen, protectionAt, protectionTurn, itemTurn, protectionsOf, itemsOf}
 use Rattle.rules.specs.Register.{blank, available, entryOf, drawsFrom, drawsOf, drawsIn, drawsOver}
 use Rattle.rules.specs.Rows.{sumOver}
-use Rattle.rules.specs.Filing.{outcomeOf, accepted}
+use Rattle.rules.specs.Filing.{accepted}
 use Rattle.rules.proofs.Lists.{total-append}
-use Rattle.theorems.specs.Claims.{drawnBy, drawnIn, drawnOf, Conserved, AllConserved, Conservation}
+use Rattle.theorems.specs.Claims.{drawnBy, drawnIn, drawnOf, Conservation}
 use Rattle.theorems.proofs.Accepted.{Accepted, accepted-is}
-use Rattle.theorems.proofs.Settling.{drawnAt, Falls, all-fall, settle-length}
+use Rattle.theorems.proofs.Settling.{drawnAt, all-fall, settle-length}
 
 -- ---- the draws are the covers of the book
 

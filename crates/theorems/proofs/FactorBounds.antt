@@ -14,9 +14,6 @@ use Rattle.rules.specs.Weigh.{tradeAddOn, writtenAddOn}
 
 -- ---- amounts
 
-pub size-small : (w : ℕ) → sizeOf w < 2 ^ 27
-size-small w = omega arith
-
 pub gain-small : (w : ℕ) → gainOf w < 2 ^ 27
 unfolding gainOf
 gain-small w = go (bitOf 27 w)

@@ -1,13 +1,15 @@
 -- What is known of a record that is read: that its words all stand there, and so how far it reaches.
 -- Assumes nothing.
 use Prim.Native.Nat.{ℕ, zero, suc, _+_, _≤_, _<_}
-use mathlib.Core.Path.{_≡_, refl}
+use mathlib.Core.Path.{_≡_, refl, _∙_, ap}
 use mathlib.Core.Bool.{Bool, true, false, cond}
 use mathlib.Core.List.{List}
 use native.Mathlib.Omega.{arith}
+use native.Mathlib.Nat.{add-zero}
 use borrow.Author.Tests.{ltb-true, leb-false, eqb-true}
 use lib.Dec.{leb, ltb}
-use lib.ListN.{length}
+use lib.ListN.{length, drop}
+use lib.Seq.{getD-drop}
 use Rattle.rules.specs.Word.{word, kindOf, amountsIn}
 use Rattle.rules.specs.Run.{Turn, bad, sound}
 use Rattle.rules.specs.Read.{lacks, recordThen, stands}
@@ -18,6 +20,10 @@ use Rattle.rules.proofs.Runs.{FineTurn}
 pub stands-is : (kind : ℕ) (ws : List ℕ) (at : ℕ) → stands kind ws at ≡ true → (at < length ws) × (kindOf (word ws at) ≡ kind)
 stands-is kind ws at e =
     (ltb-true _ _ (and-left (ltb at (length ws)) _ e), eqb-true _ _ (and-right (ltb at (length ws)) _ e))
+
+-- a part of the words begins with the word at its place
+pub head-word : (ws : List ℕ) (at : ℕ) → word (drop at ws) 0 ≡ word ws at
+head-word ws at = getD-drop at ws 0 0 ∙ ap (λ (i : ℕ). word ws i) (add-zero at)
 
 -- amounts that stand there leave room
 pub lacks-room : (n : ℕ) (ws : List ℕ) (at : ℕ) → lacks n ws at ≡ false → at < length ws → at + n < length ws

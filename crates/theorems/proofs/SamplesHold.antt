@@ -1,5 +1,5 @@
 -- The definitions give every listed figure of the samples, by computation. Assumes nothing.
-use mathlib.Core.Path.{_≡_, refl}
+use mathlib.Core.Path.{refl}
 use Rattle.rules.specs.Word.{gainOf, lossOf}
 use Rattle.rules.specs.Run.{runFrom}
 use Rattle.rules.specs.Faults.{cause, protectionFault, assetFault, derivativeSetFault, tradeFault, writtenFault, coverFault, financingSetFault, financingTradeFault, offBalanceFault}

@@ -2,21 +2,20 @@
 -- entry falls by just what is drawn from it. Assumes nothing.
 use Prim.Native.Nat.{ℕ, zero, suc, _+_, _-_, _≤_, _<_}
 use mathlib.Core.Path.{_≡_, refl, sym, _∙_, ap}
-use mathlib.Core.Bool.{Bool, true, false, not, _||_, cond}
+use mathlib.Core.Bool.{cond}
 use mathlib.Core.List.{List, [], _∷_, _++_}
 use native.Mathlib.Omega.{arith}
 use native.Mathlib.Decide.{ℕ-discrete}
 use borrow.Author.Tests.{ltb-false, leb-false, eq-eqb, ne-eqb}
-use lib.Dec.{eqb, leb, ltb}
+use lib.Dec.{eqb, ltb}
 use lib.ListN.{length, getD, set, length-set}
 use lib.Seq.{getD-set-same, getD-set-other}
 use Rattle.rules.specs.declared.Draw.{Draw}
 use Rattle.rules.specs.declared.Entry.{Entry}
-use Rattle.rules.specs.Book.{Cover, WrittenCredit, Member, trade, written, DerivativeSet, Item, asset, derivatives, financing, offBalance, Placed, total}
-use Rattle.rules.specs.Faults.{cause}
-use Rattle.rules.specs.Weigh.{coveredOf, writtenIn, coversIn}
-use Rattle.rules.specs.Register.{blank, drawsFrom, drawsOf, drawsIn, drawsOver, unfitFor, drawFault, drawnFrom, drawn, Settled, unfit, settled, ifFit, settle}
-use Rattle.rules.proofs.Lists.{Every, or-left, or-right, total-append}
+use Rattle.rules.specs.Book.{Cover, WrittenCredit, Member, trade, written, Item, asset, derivatives, financing, offBalance, Placed, total}
+use Rattle.rules.specs.Weigh.{writtenIn, coversIn}
+use Rattle.rules.specs.Register.{blank, drawsFrom, drawsOf, drawsIn, drawsOver, unfitFor, drawFault, drawnFrom, drawn, settled, ifFit, settle}
+use Rattle.rules.proofs.Lists.{Every, or-left, or-right}
 use Rattle.rules.proofs.Lists
 use Rattle.theorems.proofs.Valid.{cause-none}
 

@@ -1,10 +1,9 @@
 -- Where row 10 is 0 the book has no cover: a cover is at least 1. Assumes nothing.
-use Prim.Native.Nat.{ℕ, _+_, _-_, _*_, _≤_}
-use mathlib.Core.Path.{_≡_, refl, _∙_}
-use mathlib.Core.List.{List, [], _∷_}
+use Prim.Native.Nat.{ℕ, _-_}
+use mathlib.Core.Path.{_≡_, refl}
+use mathlib.Core.List.{List, []}
 use native.Mathlib.Omega.{arith}
 use Rattle.rules.specs.declared.Bands.{Bands}
-use Rattle.rules.specs.declared.Draw.{Draw}
 use Rattle.rules.specs.Book.{Cover, WrittenCredit, Member, trade, written, Item, asset, derivatives, financing, offBalance, Placed, total}
 use Rattle.rules.specs.Weigh.{coversIn}
 use Rattle.rules.specs.Rows.{row10, sumOver, sumsOf}

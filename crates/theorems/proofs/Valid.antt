@@ -2,17 +2,17 @@
 -- financing trade's securities and receivable within its gross asset, and a cover is not of 0. Assumes nothing.
 use Prim.Native.Nat.{ℕ, zero, suc, _+_, _≤_}
 use mathlib.Core.Path.{_≡_, refl}
-use mathlib.Core.Bool.{Bool, true, false, _||_, _&&_, not, cond}
+use mathlib.Core.Bool.{Bool, true, false, not, cond}
 use mathlib.Core.List.{List}
 use native.Mathlib.Omega.{arith}
 use borrow.Author.Tests.{ltb-false, eqb-false}
 use lib.Dec.{eqb, leb, ltb}
 use lib.ListN.{length, drop}
-use Rattle.rules.specs.Word.{word, kindOf, payloadOf, bitOf, sizeOf, faultyAmount, faultyDays, amountsIn}
-use Rattle.rules.specs.Book.{Protection, Asset, Cover, Member, trade, written, DerivativeSet, FinancingTrade, FinancingSet, Item, asset, derivatives, financing, offBalance, Placed}
-use Rattle.rules.specs.Run.{Turn, over, bad, some, Run, ended, runFrom, sound}
+use Rattle.rules.specs.Word.{word, kindOf, sizeOf, faultyAmount, amountsIn}
+use Rattle.rules.specs.Book.{Cover, Member, trade, written, FinancingTrade, Item, asset, derivatives, financing, offBalance, Placed}
+use Rattle.rules.specs.Run.{Turn, over, bad, some, ended, runFrom, sound}
 use Rattle.rules.specs.Faults.{cause, assetFault, coverFault, financingTradeFault}
-use Rattle.rules.specs.Read.{lacks, recordThen, stands, assetAt, assetTurn, coverAt, coverTurn, writtenAt, writtenTurn, tradeTurn, memberTurn, derivativeSetAt, derivativeSetTurn, withMembers, lastDaysAt, financingTradeAt, financingTradeTurn, financingMemberTurn, financingSetAt, withTrades, financingSetTurn, offBalanceTurn, itemOf, placed, endFault, itemTurn, protectionsOf, itemsOf}
+use Rattle.rules.specs.Read.{lacks, recordThen, stands, assetAt, assetTurn, coverAt, coverTurn, writtenAt, writtenTurn, tradeTurn, memberTurn, derivativeSetAt, derivativeSetTurn, financingTradeAt, financingTradeTurn, financingMemberTurn, financingSetAt, financingSetTurn, offBalanceTurn, itemOf, placed, endFault, itemTurn, protectionsOf, itemsOf}
 use Rattle.rules.proofs.Lists.{Every, or-left, or-right}
 use Rattle.rules.proofs.Lists
 use Rattle.rules.proofs.Runs.{TurnHas, every-run}
@@ -90,12 +90,8 @@ valid-cover ws at =
     (has-record ValidCover ws at _ _
     (λ e n.
     let a = cause-none 6 _ _ e .1 in
-    let z = eqb-false _ 0 (or-right (faultyAmount (word ws (at + 1))) _ (cause-none 7 _ _ a .0)) in
-    above (sizeOf (word ws (at + 1))) z)) tt
-  where
-    above : (n : ℕ) → (n ≡ 0 → ⊥) → 1 ≤ n
-    above zero z = absurd (z refl)
-    above (suc n) z = omega arith
+    let z : sizeOf (word ws (at + 1)) ≡ 0 → ⊥ = eqb-false _ 0 (or-right (faultyAmount (word ws (at + 1))) _ (cause-none 7 _ _ a .0)) in
+    omega arith)) tt
 
 valid-trade-or-credit : (ws : List ℕ) (at : ℕ) → TurnHas ValidMember (memberTurn ws at)
 unfolding memberTurn tradeTurn writtenTurn writtenAt

@@ -4,12 +4,11 @@ use mathlib.Core.Path.{_≡_}
 use mathlib.Core.Bool.{cond}
 use mathlib.Core.List.{List}
 use lib.Dec.{eqb}
-use lib.IntN.{ℤ, pos}
+use lib.IntN.{pos}
 use lib.ListN.{length, getD}
 use lib.Signed.{mag}
 use Rattle.rules.specs.declared.Entry.{Entry}
-use Rattle.rules.specs.Book.{Protection, Cover, WrittenCredit, Member, trade, written, Item, asset, derivatives, financing, offBalance, Placed, total}
-use Rattle.rules.specs.Run.{Run}
+use Rattle.rules.specs.Book.{Protection, Cover, Member, trade, written, Item, asset, derivatives, financing, offBalance, Placed, total}
 use Rattle.rules.specs.Read.{headOf, protectionsOf}
 use Rattle.rules.specs.Rows.{sumOver, sumsOf, exposureRow, rowsOf}
 use Rattle.rules.specs.Register.{blank, available}

@@ -3,7 +3,7 @@ use Prim.Native.Nat.{ℕ, _+_, _-_, _*_}
 use mathlib.Core.Bool.{cond}
 use Rattle.rules.specs.declared.Bands.{Bands}
 use Rattle.rules.specs.Factors.{conversionOf}
-use Rattle.rules.specs.Book.{DerivativeSet, FinancingTrade, FinancingSet, OffBalance, Item, asset, derivatives, financing, offBalance, total}
+use Rattle.rules.specs.Book.{DerivativeSet, FinancingTrade, FinancingSet, Item, asset, derivatives, financing, offBalance, total}
 use Rattle.rules.specs.Weigh.{replacementOf, marginOffsets, writtenIn, coversIn, cashNetted, excessOf}
 use Rattle.rules.specs.Rows.{assetRows, tallyIn, keptWeighted}
 

@@ -1,12 +1,11 @@
 -- The two-desk result: THE CLAIM of rules/specs/TwoDesks. Assumes nothing.
 use Prim.Native.Nat.{ℕ, _*_, _≤_}
-use mathlib.Core.Path.{_≡_, refl, sym, _∙_, ap, subst}
+use mathlib.Core.Path.{_≡_, refl, _∙_, ap}
 use mathlib.Core.Bool.{Bool, true, false, cond}
-use mathlib.Core.Logic.{_⊎_}
 use mathlib.Core.List.{List, [], _∷_}
 use native.Mathlib.Omega.{arith}
 use lib.Dec.{le→leb}
-use lib.IntN.{ℤ, pos}
+use lib.IntN.{ℤ}
 use lib.ListN.{length}
 use lib.Signed.{_≤ℤ_}
 use Rattle.rules.specs.declared.Bands.{Bands}
@@ -15,15 +14,13 @@ use Rattle.rules.specs.Weighted.{weightedOf}
 use Rattle.rules.specs.Book.{DerivativeSet, Item, asset, derivatives, financing, offBalance, Placed}
 use Rattle.rules.specs.Read.{headOf, itemsOf}
 use Rattle.rules.specs.Weigh.{Tally, netOf, weightedIn}
-use Rattle.rules.specs.Ratio.{tier1Of}
-use Rattle.rules.specs.Rows.{tallyIn, grossWeighted, sumOver, sumsOf, exposureRow, rowsOf}
-use Rattle.rules.specs.Filing.{Outcome, early, refused, accepted, outcomeOf, Filing, filingOf, filing}
+use Rattle.rules.specs.Rows.{tallyIn, sumsOf, exposureRow, rowsOf}
+use Rattle.rules.specs.Filing.{Outcome, accepted, outcomeOf, filingOf, filing}
 use Rattle.rules.specs.TwoDesks.{MoreRecognised, WithinShare, AllWithinShare, NoWorse, SameOrBetter, TwoDesks}
 use Rattle.rules.proofs.Lists.{Pairs}
 use Rattle.rules.proofs.Weighted.{two-fifths, five-at-most}
 use Rattle.rules.proofs.Ratios.{ratio-falls, verdict-kept}
-use Rattle.theorems.specs.Exposure.{exposureOf}
-use Rattle.theorems.proofs.Accepted.{Accepted, accepted-is, Numbered, numbered}
+use Rattle.theorems.proofs.Accepted.{accepted-is, Numbered, numbered}
 use Rattle.theorems.proofs.Accepted
 use Rattle.theorems.proofs.ExposureSum.{exposure-is-sum}
 use Rattle.two_desks.proofs.Related.{MorePlaced}

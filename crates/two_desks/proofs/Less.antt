@@ -1,16 +1,16 @@
 -- What further marks do to an item's exposure: it never grows. Assumes nothing.
-use Prim.Native.Nat.{ℕ, zero, suc, _+_, _-_, _*_, min, _≤_, _<_}
-use mathlib.Core.Path.{_≡_, refl, sym, _∙_, ap}
+use Prim.Native.Nat.{ℕ, suc, _+_, _-_, _*_, min, _≤_}
+use mathlib.Core.Path.{_≡_, refl, ap}
 use mathlib.Core.Bool.{Bool, true, false, _&&_, cond}
 use mathlib.Core.List.{List, [], _∷_}
 use native.Mathlib.Omega.{arith}
-use native.Mathlib.Nat.{le-refl, mul-le-mul-left}
+use native.Mathlib.Nat.{mul-le-mul-left}
 use lib.Dec.{eqb}
 use Rattle.rules.specs.declared.Bands.{Bands}
 use Rattle.rules.specs.Weighted.{weightedOf}
-use Rattle.rules.specs.Book.{Asset, Member, DerivativeSet, FinancingTrade, FinancingSet, Item, asset, derivatives, financing, offBalance, Placed, total}
-use Rattle.rules.specs.Weigh.{Tally, tallyOf, netOf, marginOffsets, replacementOf, weightedIn, writtenIn, coversIn, sumBelow, onDay, nettedOn, lastDay, cashNetted, excessOf}
-use Rattle.rules.specs.Rows.{AssetRows, assetRows, tallyIn, keptWeighted, sumOver}
+use Rattle.rules.specs.Book.{Asset, Member, DerivativeSet, FinancingTrade, FinancingSet, Item, asset, financing, Placed, total}
+use Rattle.rules.specs.Weigh.{Tally, tallyOf, netOf, marginOffsets, replacementOf, weightedIn, writtenIn, coversIn, onDay, nettedOn, lastDay, cashNetted, excessOf}
+use Rattle.rules.specs.Rows.{AssetRows, assetRows, tallyIn, sumOver}
 use Rattle.rules.proofs.Lists.{Pairs, pairs-total}
 use Rattle.rules.proofs.Lists
 use Rattle.rules.proofs.Weighted.{at-most}

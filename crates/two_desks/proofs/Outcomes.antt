@@ -1,13 +1,12 @@
 -- Two books that differ in marks at most come equally far: the covers are the same, and settling looks at no mark. Assumes nothing.
 use Prim.Native.Nat.{ℕ, _^_}
-use mathlib.Core.Path.{_≡_, refl, sym, ap, subst}
+use mathlib.Core.Path.{_≡_, refl, ap}
 use mathlib.Core.Bool.{Bool, true, false, cond}
-use mathlib.Core.List.{List, [], _∷_, _++_, map}
+use mathlib.Core.List.{List, map}
 use lib.Dec.{eqb, ltb}
 use lib.ListN.{length}
-use Rattle.rules.specs.declared.Draw.{Draw}
 use Rattle.rules.specs.declared.Entry.{Entry}
-use Rattle.rules.specs.Book.{Item, asset, derivatives, financing, offBalance, Placed}
+use Rattle.rules.specs.Book.{Item, Placed}
 use Rattle.rules.specs.Run.{Run}
 use Rattle.rules.specs.Read.{headFaulty, headOf, protectionsOf, itemsOf}
 use Rattle.rules.specs.Register.{entryOf, drawsOf, drawsIn, drawsOver, Settled, unfit, settled, settle}

@@ -1,17 +1,17 @@
 -- Two books that differ in marks at most: protections, trades, written credits and covers have no marks, so they are the same.
 -- Assumes nothing.
-use Prim.Native.Nat.{ℕ, suc, _+_}
-use mathlib.Core.Path.{_≡_, refl, sym, _∙_, ap, fun-ext}
-use mathlib.Core.Bool.{Bool, true, false, not, _||_, cond}
+use Prim.Native.Nat.{ℕ, suc}
+use mathlib.Core.Path.{_≡_, refl, ap, fun-ext}
+use mathlib.Core.Bool.{Bool, true, false, not, _||_}
 use mathlib.Core.List.{List}
 use native.Mathlib.Omega.{arith}
 use borrow.Author.Tests.{eqb-true, not-false}
 use lib.Dec.{leb, ltb, eqb}
 use lib.ListN.{length}
 use Rattle.rules.specs.Word.{word, kindOf, payloadOf, minusZero}
-use Rattle.rules.specs.Book.{Protection, Cover, Member, trade}
-use Rattle.rules.specs.Run.{Turn, over, bad, some, Run, runFrom}
-use Rattle.rules.specs.Read.{headOf, firstRecord, headFaulty, recordThen, stands, protectionAt, protectionTurn, coverAt, coverTurn, writtenAt, withCovers, writtenTurn, tradeAt, tradeTurn, memberTurn, protectionsOf}
+use Rattle.rules.specs.Book.{Protection, Cover, Member}
+use Rattle.rules.specs.Run.{Turn, over, runFrom}
+use Rattle.rules.specs.Read.{headOf, firstRecord, headFaulty, protectionAt, protectionTurn, coverAt, coverTurn, writtenAt, writtenTurn, tradeAt, tradeTurn, memberTurn, protectionsOf}
 use Rattle.rules.specs.TwoDesks.{MoreRecognised}
 use Rattle.rules.proofs.Lists.{or-left, or-right, or-true}
 use Rattle.rules.proofs.Runs.{Turns, choices}

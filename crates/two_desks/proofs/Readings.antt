@@ -1,29 +1,27 @@
 -- Two books that differ in marks at most are read alike: the same faults at the same places, and items that differ in marks at most.
 -- No cause looks at a mark. Assumes nothing.
-use Prim.Native.Nat.{ℕ, suc, _+_, _^_, _≤_, _<_}
-use mathlib.Core.Path.{_≡_, refl, sym, _∙_, ap}
-use mathlib.Core.Bool.{Bool, true, false, not, cond}
+use Prim.Native.Nat.{ℕ, suc, _^_, _≤_, _<_}
+use mathlib.Core.Path.{_≡_, refl, _∙_, ap}
+use mathlib.Core.Bool.{Bool, true, false, cond}
 use mathlib.Core.List.{List}
 use native.Mathlib.Omega.{arith}
-use native.Mathlib.Nat.{add-zero}
 use borrow.Author.Tests.{eqb-true}
 use lib.Dec.{leb, eqb, lit<, lit≤}
 use lib.ListN.{length, drop}
-use lib.Seq.{getD-drop}
 use Rattle.rules.specs.Word.{word, kindOf, payloadOf, bitOf, sizeOf, marksOfKind}
-use Rattle.rules.specs.Book.{FinancingTrade, Item, asset, derivatives, financing, offBalance, Placed}
-use Rattle.rules.specs.Run.{Turn, over, bad, some, Run, ended, runFrom, sound}
+use Rattle.rules.specs.Book.{FinancingTrade, Item, asset, financing}
+use Rattle.rules.specs.Run.{Turn, over, some, Run, ended, runFrom, sound}
 use Rattle.rules.specs.Faults.{assetFault, derivativeSetFault, financingSetFault, financingTradeFault}
-use Rattle.rules.specs.Read.{recordThen, assetAt, assetTurn, memberTurn, derivativeSetAt, derivativeSetTurn, financingTradeAt, financingTradeTurn, financingMemberTurn, financingSetAt, financingSetTurn, offBalanceAt, offBalanceTurn, itemOf, placed, endFault, itemTurn, protectionsOf, itemsAfter, itemsOf, headFaulty}
-use Rattle.rules.specs.TwoDesks.{MoreMarks, MoreRecognised}
+use Rattle.rules.specs.Read.{assetAt, assetTurn, memberTurn, derivativeSetAt, derivativeSetTurn, financingTradeAt, financingTradeTurn, financingMemberTurn, financingSetAt, financingSetTurn, offBalanceAt, offBalanceTurn, itemOf, placed, endFault, itemTurn, protectionsOf, itemsOf, headFaulty}
+use Rattle.rules.specs.TwoDesks.{MoreRecognised}
 use Rattle.rules.proofs.Runs.{Turns, Both, both-run, sounds, choices}
 use Rattle.rules.proofs.Runs
 use Rattle.rules.proofs.Lists.{Pairs}
 use Rattle.rules.proofs.Lists
 use Rattle.two_desks.proofs.Marks.{kind-same, payload-same, bit-same, mark-kept}
-use Rattle.two_desks.proofs.Related.{Kept, MoreAsset, MoreSet, MoreTrade, MoreFinancing, MoreItem, MorePlaced}
+use Rattle.two_desks.proofs.Related.{Kept, MoreTrade, MoreItem, MorePlaced}
 use Rattle.two_desks.proofs.Related
-use Rattle.two_desks.proofs.Amounts.{drop-more, word-same, amount-same, last-days-same, stands-turns, record-turns, turns-eq, eq-turns}
+use Rattle.two_desks.proofs.Amounts.{drop-more, word-same, amount-same, last-days-same, stands-turns, record-turns}
 use Rattle.two_desks.proofs.Plain.{run-same, member-same, protections-same}
 
 module _ (xs ys : List ℕ) (l : MoreRecognised xs ys) where

@@ -1,9 +1,9 @@
 -- What a set puts into the sums, piece by piece. Assumes nothing.
 use mathlib.Core.Path.{_∙_}
-use Prim.Native.Nat.{_+_, _-_, _*_, _≤_}
+use Prim.Native.Nat.{_-_, _≤_}
 use native.Mathlib.Omega.{arith}
 use borrow.Author.Needs.{needs}
-use Rattle.derivatives.proofs.SetRows.{marked-under, replaced-under, weighted-under, weighted-less, replaced-is, weighted-is, with-set-is}
+use Rattle.derivatives.proofs.SetRows.{replaced-under, weighted-under, weighted-less, replaced-is, weighted-is, with-set-is}
 use Rattle.derivatives.proofs.rows.with_set.Statement.{statement}
 use Rattle.derivatives.proofs.rows.with_set.Tie as tie
 
@@ -35,8 +35,8 @@ size-requires c κs = search needs
 wide-requires : tie.Need-wide-requires
 wide-requires c κs = search needs
 
-marked-requires : tie.Need-marked-requires
-marked-requires c κs = search needs
+chosen-requires : tie.Need-chosen-requires
+chosen-requires c κs = search needs
 
 add-with-margin : tie.Need-add-with-margin
 add-with-margin c =
@@ -45,7 +45,7 @@ add-with-margin c =
       c .before .before .before .before .before .before .pre .1 .losses,
       c .before .before .wide .ensures,
       c .before .before .before .size .ensures,
-      marked-under (c .before .before .before .before .margin-counts .result) (c .before .before .wide .result) _ (c .before .marked .ensures),
+      c .before .chosen .ensures .1,
     )
 
 replacement-requires : tie.Need-replacement-requires
@@ -96,8 +96,8 @@ add-s-4 c =
     let k = c .before .before .before .before .before .before .before .before in
     omega (arith, entry k .pre .0 .posted, c .before .wide3 .ensures, c .before .before .size3 .ensures)
 
-marked-requires-2 : tie.Need-marked-requires-2
-marked-requires-2 c κs = search needs
+chosen-requires-2 : tie.Need-chosen-requires-2
+chosen-requires-2 c κs = search needs
 
 add-s-5 : tie.Need-add-s-5
 add-s-5 c =
@@ -108,19 +108,19 @@ add-s-5 c =
       entry k .pre .0 .offset,
       paid .ensures,
       c .before .before .before .before .before .before .before .before .before .size2 .ensures,
-      marked-under (k .before .before .before .before .before .before .before .margin-counts .result) (1000 * paid .result) _ (c .before .marked2 .ensures),
+      c .before .chosen2 .ensures .1,
     )
 
 bit-requires-2 : tie.Need-bit-requires-2
 bit-requires-2 c κs = search needs
 
-add-marked : tie.Need-add-marked
-add-marked c =
+add-chosen : tie.Need-add-chosen
+add-chosen c =
     let k = c .before .before .before .before .before .before .before .before .before .before .before in
     omega (arith, entry k .pre .1 .weight, replaced-small k, rest-small k)
 
-marked-requires-3 : tie.Need-marked-requires-3
-marked-requires-3 c κs = search needs
+chosen-requires-3 : tie.Need-chosen-requires-3
+chosen-requires-3 c κs = search needs
 
 add-s-6 : tie.Need-add-s-6
 add-s-6 c =
@@ -131,7 +131,7 @@ add-s-6 c =
       entry k .pre .1 .weight,
       replaced-small k,
       rest-small k,
-      marked-under (c .before .before .bit2 .result) (1000 * k .before .before .replacement .result + k .weighted-rest .result) _ (c .before .marked3 .ensures),
+      c .before .chosen3 .ensures .1,
     )
 
 mul-s-2 : tie.Need-mul-s-2
@@ -171,8 +171,8 @@ returns c =
     let netting = k .before .before .before .before .before .before .before .before .bit .ensures in
     let counts = k .before .before .before .before .before .before .before .margin-counts .ensures in
     with-set-is (a .w) (a .received) (a .paid) (a .posted) (a .t) (a .s) _ _ _ _ _ _ _ _ _ counts (c .before .before .before .before .before .before .bit2 .ensures) (c .before .before .before .before .before .before .before .before .before .before .before .before .before .before .before .wide2 .ensures ∙ c .before .before .before .before .before .before .before .before .before .before .before .before .before .before .before .before .size2 .ensures)
-    (c .before .before .before .before .before .before .before .before .before .before .wide3 .ensures ∙ c .before .before .before .before .before .before .before .before .before .before .before .size3 .ensures) (c .before .before .before .before .before .before .before .before .marked2 .ensures) (c .before .before .before .before .before .marked3 .ensures)
-    (replaced-is (a .w) (a .received) (a .paid) (a .posted) (a .t) _ _ _ _ _ netting counts (k .before .before .before .before .before .wide .ensures ∙ k .before .before .before .before .before .before .size .ensures) (k .before .before .before .before .marked .ensures) (k .before .before .replacement .ensures))
+    (c .before .before .before .before .before .before .before .before .before .before .wide3 .ensures ∙ c .before .before .before .before .before .before .before .before .before .before .before .size3 .ensures) (c .before .before .before .before .before .before .before .before .chosen2 .ensures .0) (c .before .before .before .before .before .chosen3 .ensures .0)
+    (replaced-is (a .w) (a .received) (a .paid) (a .posted) (a .t) _ _ _ _ _ netting counts (k .before .before .before .before .before .wide .ensures ∙ k .before .before .before .before .before .before .size .ensures) (k .before .before .before .before .chosen .ensures .0) (k .before .before .replacement .ensures))
     (weighted-is (a .w) (a .received) (a .paid) (a .posted) (a .t) _ _ _ netting (k .before .weighted-in .ensures))
     (weighted-is (a .w) (a .received) (a .paid) (a .posted) (a .t) _ _ _ netting (k .weighted-rest .ensures))
 
@@ -184,7 +184,7 @@ with-set-spec =
     margin-counts-requires
     size-requires
     wide-requires
-    marked-requires
+    chosen-requires
     add-with-margin
     replacement-requires
     mul-replaced
@@ -200,11 +200,11 @@ with-set-spec =
     wide-requires-3
     mul-s
     add-s-4
-    marked-requires-2
+    chosen-requires-2
     add-s-5
     bit-requires-2
-    add-marked
-    marked-requires-3
+    add-chosen
+    chosen-requires-3
     add-s-6
     mul-s-2
     add-s-7

@@ -1,7 +1,7 @@
 -- `stop_of` at a whole reading and at a fault. Assumes nothing.
 use mathlib.Core.Path.{_∙_}
 use borrow.Author.Needs.{needs}
-use Rattle.leverage.proofs.CaseLaws.{stop-whole}
+use Rattle.leverage.proofs.CaseLaws.{stop-whole, stop-fault}
 use Rattle.leverage.proofs.stages.stop_of.Statement.{statement}
 use Rattle.leverage.proofs.stages.stop_of.Tie as tie
 
@@ -20,7 +20,9 @@ returns c =
     c .last-cover .ensures ∙ stop-whole (c .before .before .before .before .args .r) (g .0 .0) (g .0 .1 .0) (g .1)
 
 returns-2 : tie.Need-returns-2
-returns-2 c = search needs
+returns-2 c =
+    let g = c .before .r2 .given in
+    stop-fault (c .before .before .before .args .r) (g .0 .0) (g .0 .1 .0) (g .1)
 
 pub stop-of-spec : {M : Type 1} → statement M
 stop-of-spec =

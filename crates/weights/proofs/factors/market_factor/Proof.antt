@@ -1,5 +1,5 @@
 -- `market_factor` gives the larger of two figures, as the law says. Assumes nothing.
-use mathlib.Core.Path.{_≡_, ap, sym, _∙_}
+use mathlib.Core.Path.{ap, sym, _∙_}
 use Prim.Native.Nat.{max}
 use borrow.Author.Needs.{needs}
 use Rattle.rules.specs.Factors.{bandOf, factorAt}
