@@ -42,18 +42,24 @@ pub fn off_balance_items(book: &[u32], from: usize, s: Sums, bands: Bands) -> Pa
     ensures { λ r. ⌜ Leads bands (now (book .entry)) s from (r .sums) (r .next) ⌝ }
 {
     let mut t = s;
-    let mut at = from;
-    while standing(book, at, 10) {
-        let part = &book[at..];
+    let mut place = from;
+    while standing(book, place, 10) {
+        let part = &book[place..];
         match off_balance(part, t, bands) {
             ItemStep::Next(sums, next) => {
                 t = sums;
-                at = at + next;
+                place = place + next;
             }
             ItemStep::Stop(_, _) => {
-                return Passed { sums: t, next: at };
+                return Passed {
+                    sums: t,
+                    next: place,
+                };
             }
         }
     }
-    Passed { sums: t, next: at }
+    Passed {
+        sums: t,
+        next: place,
+    }
 }

@@ -11,15 +11,15 @@ use Rattle.reading.proofs.runs.off_balance_items.Statement.{statement}
 use Rattle.reading.proofs.runs.off_balance_items.Tie as tie
 
 abbrev Inv-loop : tie.InvT-loop
-Inv-loop book from bands t₀ at₀ t at = Leads bands book t₀ at₀ t at
+Inv-loop book from bands t₀ place₀ t place = Leads bands book t₀ place₀ t place
 
 abbrev μ-loop : tie.MeasureT-loop
-μ-loop book from bands t₀ at₀ t at = length book - at
+μ-loop book from bands t₀ place₀ t place = length book - place
 
 -- what the test for the kind tells
 here :
     (c : tie.Then1 Inv-loop μ-loop)
-    → Met (c .before .before .before .before .args .bands) (c .before .before .before .before .args .book .now) (c .before .before .before .before .args .s) (c .before .before .before .before .args .from) (c .before .before .loop .t) (c .before .before .loop .at) 10
+    → Met (c .before .before .before .before .args .bands) (c .before .before .before .before .args .book .now) (c .before .before .before .before .args .s) (c .before .before .before .before .args .from) (c .before .before .loop .t) (c .before .before .loop .place) 10
 here c =
     let e = c .before .before .before .before in
     met (e .args .bands) (e .args .book .now) (e .args .s) (e .args .from) (e .pre) (c .before .before .loop .inv) 10 (c .before .standing .result) (c .before .standing .ensures) (c .if1 .taken)
@@ -51,7 +51,7 @@ enum-known-sums c = search needs
 -- the item is good
 next :
     (c : tie.After-known-told Inv-loop μ-loop)
-    → OneMore (c .before .before .before .before .before .before .before .before .before .args .bands) (c .before .before .before .before .before .before .before .before .before .args .book .now) (c .before .before .before .before .before .before .before .before .before .args .s) (c .before .before .before .before .before .before .before .before .before .args .from) (c .before .before .before .before .before .before .before .loop .at) (c .before .sums .given .0 .0) (c .before .before .before .before .before .before .before .loop .at + c .before .sums .given .0 .1 .0)
+    → OneMore (c .before .before .before .before .before .before .before .before .before .args .bands) (c .before .before .before .before .before .before .before .before .before .args .book .now) (c .before .before .before .before .before .before .before .before .before .args .s) (c .before .before .before .before .before .before .before .before .before .args .from) (c .before .before .before .before .before .before .before .loop .place) (c .before .sums .given .0 .0) (c .before .before .before .before .before .before .before .loop .place + c .before .sums .given .0 .1 .0)
 next c =
     let m = here (c .before .before .before .before .before) in
     let r = c .before .before .before .off-balance in
@@ -59,8 +59,8 @@ next c =
     let q = of-kind-10 (c .before .before .before .before .before .before .before .before .before .args .bands) (c .before .before .before .before .before .before .before .loop .t) _ _ refl (r .result) (kind-of m) (r .ensures) in
     one-more m (λ z. omega arith) (r .result) q (g .0 .0) (g .0 .1 .0) (g .1)
 
-add-at : tie.Need-add-at Inv-loop μ-loop
-add-at c = omega (arith, next c .within, here (c .before .before .before .before .before) .fair .short)
+add-place : tie.Need-add-place Inv-loop μ-loop
+add-place c = omega (arith, next c .within, here (c .before .before .before .before .before) .fair .short)
 
 loop-less : tie.Need-loop-less Inv-loop μ-loop
 loop-less c = omega (arith, next c .within, next c .further)
@@ -91,7 +91,7 @@ off-balance-items-spec =
     part-part-end
     off-balance-requires
     enum-known-sums
-    add-at
+    add-place
     loop-less
     loop-again
     enum-told
