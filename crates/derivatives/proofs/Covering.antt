@@ -1,100 +1,152 @@
--- The loop over the covers behind a written credit: what holds at its head, what each way out of it returns, and how large the sum is.
--- Assumes nothing.
-use Prim.Native.Nat.{ℕ, zero, suc, _+_, _*_, _^_, _≤_, _<_}
+-- What stands where a cover of the open credit is due: a cover, or anything else, which closes the credit. Assumes nothing.
+use Prim.Native.Nat.{ℕ, _+_, _*_, _^_, _≤_, _<_}
 use mathlib.Core.Path.{_≡_, refl, sym, _∙_, ap}
-use mathlib.Core.Bool.{Bool, true, false}
-use mathlib.Core.List.{List}
-use native.Mathlib.Nat.{add-zero, add-assoc}
+use mathlib.Core.Bool.{Bool, true, false, _&&_, cond}
+use mathlib.Core.List.{List, [], _∷_}
+use native.Mathlib.Nat.{add-zero}
 use native.Mathlib.Omega.{arith}
 use lib.ListN.{length}
-use Rattle.rules.specs.Word.{word, kindOf, sizeOf}
-use Rattle.rules.specs.Book.{Cover}
-use Rattle.rules.specs.Run.{over, bad, some, Run, withOne, runFrom}
+use Rattle.rules.specs.declared.Bands.{Bands}
+use Rattle.rules.specs.declared.Draw.{Draw}
+use Rattle.rules.specs.Word.{word, sizeOf}
 use Rattle.rules.specs.Faults.{coverFault}
-use Rattle.rules.specs.Read.{lacks, stands, recordThen, coverAt, coverTurn}
-use Rattle.rules.proofs.Runs.{FineTurn, FineRun, fine-run}
+use Rattle.rules.specs.Run.{over, bad, some}
+use Rattle.rules.specs.Weigh.{writtenAddOn}
+use Rattle.rules.specs.Read.{lacks, stands, recordThen, coverAt, coverTurn, writtenAt}
 use Rattle.records.proofs.Words.{room, turn-lacks, turn-fault, turn-on}
-use Rattle.theorems.proofs.Records.{stands-is, fine-kind, fine-record}
-use Rattle.derivatives.specs.declared.covers.Covers.the-variants.{Sum, Fault}
-use Rattle.derivatives.specs.Steps.{coversBy, coversOn, coversOf}
-use Rattle.rules.proofs.Along.{Along, along-start, along-over, along-bad, along-one}
+use Rattle.theorems.proofs.Records.{stands-is, lacks-room}
+use Rattle.theorems.proofs.FactorBounds.{gain-small, loss-small, written-add-on}
+use Rattle.derivatives.specs.declared.tally.Tally.{Tally}
+use Rattle.derivatives.specs.declared.covers.OpenCredit.{OpenCredit}
+use Rattle.derivatives.specs.declared.set.OpenSet.{OpenSet}
+use Rattle.derivatives.specs.Gathered.{plusWritten, writtenOf}
+use Rattle.derivatives.specs.Ahead.{broken, endsWith, after, fromMember, fromCover, setAhead, tallyWith, coverCause, drawHere, plusCover, SmallTally, OpenIn, SoundSet}
+use Rattle.derivatives.proofs.Ahead.{cover-over, cover-bad, cover-more}
 
--- ---- how far the covers reach, and how large their sum is
-
-abbrev pub amountIn : Cover → ℕ
-amountIn c = c .amount
-
-fine-cover : (ws : List ℕ) (at : ℕ) → at ≤ length ws → FineTurn (length ws) (2 ^ 27) amountIn at (coverTurn ws at)
-unfolding coverTurn coverAt
-fine-cover ws at h =
-    fine-kind (2 ^ 27) amountIn ws at 7 _ over
-    (λ l e. fine-record (2 ^ 27) amountIn ws at 1 (coverFault (word ws at) (word ws (at + 1))) (some (coverAt ws at) 0) l (rw e) (λ r z. (omega arith, omega arith, omega arith)))
-    tt
-
-pub fine-covers : (ws : List ℕ) (at : ℕ) → at ≤ length ws → FineRun (length ws) (2 ^ 27) amountIn at (runFrom (coverTurn ws) (suc (length ws)) at)
-fine-covers ws at h = fine-run (length ws) (2 ^ 27) amountIn (coverTurn ws) (fine-cover ws) (suc (length ws)) at h
-
--- ---- the loop
-
--- from `at` on, with this sum at this place
-pub record Covering (ws : List ℕ) (at sum next : ℕ) : Type 0 where
-  pub along : Along (length ws) (coverTurn ws) coversOn (coversOf ws at) sum next
-  pub small : sum ≤ 2 ^ 27 * next
-
-pub covering-start : (ws : List ℕ) (at : ℕ) → at ≤ length ws → Covering ws at 0 at
-unfolding coversOf
-covering-start ws at h = record { along = along-start (length ws) (coverTurn ws) coversOn (coversOf ws at) 0 at h refl; small = omega arith }
-
--- a fault is none that is 0
-by-fault : (number sum place : ℕ) → (number ≡ 0 → ⊥) → Fault number place ≡ coversBy number sum place
-by-fault zero sum place h = absurd (h refl)
-by-fault (suc number) sum place h = refl
-
-module _ (ws : List ℕ) (at sum next : ℕ) (i : Covering ws at sum next) (s : Bool) (sq : s ≡ stands 7 ws next) where
-  pub cover-end : s ≡ false → Sum sum next ≡ coversOf ws at
-  unfolding coverTurn
-  cover-end e = simp add-zero at (along-over (length ws) (coverTurn ws) coversOn (coversOf ws at) sum next (i .along) turn-over)
+-- whether a cover is due: a credit is open, and a cover stands there
+module _ (a b r : Bool) (q : r ≡ (a && b)) where
+  pub due : r ≡ true → (a ≡ true) × (b ≡ true)
+  due e = go a b (sym q ∙ e)
     where
-      turn-over : coverTurn ws next ≡ over
-      turn-over = simp (← sq, e)
+      go : (a b : Bool) → (a && b) ≡ true → (a ≡ true) × (b ≡ true)
+      go true b e = (refl, e)
+      go false b e = let z : _≡_ {A = ℕ} 0 1 = cc in absurd (omega arith)
 
-  module _ (e : s ≡ true) where
-    pub cover-within : next < length ws
-    cover-within = stands-is 7 ws next (sym sq ∙ e) .0
+  pub not-due : r ≡ false → a ≡ true → b ≡ false
+  not-due e h = sym (simp h at q) ∙ e
 
-    cover-kind : kindOf (word ws next) ≡ 7
-    cover-kind = stands-is 7 ws next (sym sq ∙ e) .1
+module _ (bands : Bands) (ws : List ℕ) (begin : ℕ) (o : OpenSet) (s : SoundSet ws begin o) where
+  -- ---- no credit is open
 
-    turn-here : coverTurn ws next ≡ recordThen ws next (coverFault (word ws next) (word ws (next + 1))) (some (coverAt ws next) 0)
-    unfolding coverTurn
-    turn-here = simp (← sq, e)
+  module _ (a : o .credit .allowed ≡ false) where
+    pub none-open : setAhead bands ws begin o ≡ fromMember bands ws begin (o .tally) (o .at)
+    unfolding setAhead
+    none-open = simp a
 
-    module _ (l : Bool) (lq : l ≡ lacks 1 ws next) where
-      pub cover-lacks : l ≡ true → Fault 6 next ≡ coversOf ws at
-      cover-lacks f =
-          along-bad (length ws) (coverTurn ws) coversOn (coversOf ws at) sum next (i .along) 6 next
-          (turn-here ∙ turn-lacks ws next 7 cover-kind (coverFault (word ws next) (word ws (next + 1))) (some (coverAt ws next) 0) (sym lq ∙ f))
+    pub none-small : SmallTally (o .tally) (o .at)
+    none-small = simp a at (s .small)
 
-      module _ (g : l ≡ false) where
-        pub cover-room : next + 1 < length ws
-        cover-room = room 1 1 ws next l lq g cover-within (omega arith)
+  -- ---- one is open
 
-        module _ (f : ℕ) (fq : f ≡ coverFault (word ws next) (word ws (next + 1))) where
-          pub cover-wrong : (f ≡ 0 → ⊥) → Fault f next ≡ coversOf ws at
-          cover-wrong h =
-              by-fault f _ next h
-              ∙ along-bad (length ws) (coverTurn ws) coversOn (coversOf ws at) sum next (i .along) f next
-              (turn-here ∙ turn-fault ws next 7 cover-kind (coverFault (word ws next) (word ws (next + 1))) (some (coverAt ws next) 0) (sym lq ∙ g) (λ z. h (fq ∙ z)) ∙ ap (λ (n : ℕ). bad n next) (sym fq))
+  module _ (a : o .credit .allowed ≡ true) where
+    pub some-open : setAhead bands ws begin o ≡ fromCover bands ws begin (o .tally) (o .credit) (o .at)
+    unfolding setAhead
+    some-open = simp a
 
-          module _ (h : f ≡ 0) (x : ℕ) (xq : x ≡ sizeOf (word ws (next + 1))) where
-            added : (r : Run Cover) → coversOn sum (withOne (coverAt ws next) r) ≡ coversOn (sum + x) r
-            unfolding coverAt
-            added r = simp (xq, add-assoc)
+    pub open-here : OpenIn ws (o .credit) (o .at)
+    open-here = s .credit a
 
-            pub covering-next : Covering ws at (sum + x) (next + 2)
-            covering-next = record {
-              along = along-one (length ws) (coverTurn ws) coversOn (coversOf ws at) sum next (i .along) (coverAt ws next) (next + 2) (sum + x)
-                  (turn-here ∙ turn-on ws next 7 cover-kind (coverFault (word ws next) (word ws (next + 1))) (some (coverAt ws next) 0) (sym lq ∙ g) (sym fq ∙ h))
-                  (omega arith) (omega (arith, cover-room)) added;
-              small = omega (arith, i .small);
-            }
+    -- its words are all there
+    pub open-room : o .credit .place + 5 < length ws
+    open-room = omega (arith, open-here .before, s .within)
+
+    pub open-covered : o .credit .covered ≤ 2 ^ 62
+    open-covered = omega (arith, open-here .covered, s .within, s .short)
+
+    pub open-small : SmallTally (o .tally) (o .credit .place)
+    open-small = simp a at (s .small)
+
+    -- a cover
+    module _ (k : stands 7 ws (o .at) ≡ true) where
+      abbrev coverFaultAt : ℕ
+      coverFaultAt = coverFault (word ws (o .at)) (word ws (o .at + 1))
+
+      cover-turn : coverTurn ws (o .at) ≡ recordThen ws (o .at) coverFaultAt (some (coverAt ws (o .at)) 0)
+      unfolding coverTurn
+      cover-turn = simp k
+
+      module _ (f : ℕ) (fq : f ≡ coverCause ws (o .at)) where
+        -- a cause is 6 or that of the record's own words
+        pub cover-wrong : (f ≡ 0 → ⊥) → fromCover bands ws begin (o .tally) (o .credit) (o .at) ≡ endsWith (broken f (o .at))
+        unfolding coverCause
+        cover-wrong n = go (lacks 1 ws (o .at)) refl fq
+          where
+            go : (l : Bool) → lacks 1 ws (o .at) ≡ l → f ≡ cond l 6 coverFaultAt → fromCover bands ws begin (o .tally) (o .credit) (o .at) ≡ endsWith (broken f (o .at))
+            go true e q = cover-bad bands ws begin (o .tally) (o .credit) (o .at) (s .within) f (o .at) (cover-turn ∙ turn-lacks ws (o .at) 7 (stands-is 7 ws (o .at) k .1) coverFaultAt (some (coverAt ws (o .at)) 0) e ∙ ap (λ (x : ℕ). bad x (o .at)) (sym q)) n
+            go false e q = cover-bad bands ws begin (o .tally) (o .credit) (o .at) (s .within) f (o .at) (cover-turn ∙ turn-fault ws (o .at) 7 (stands-is 7 ws (o .at) k .1) coverFaultAt (some (coverAt ws (o .at)) 0) e (λ z. n (q ∙ z)) ∙ ap (λ (x : ℕ). bad x (o .at)) (sym q)) n
+
+        module _ (z : f ≡ 0) where
+          good : (lacks 1 ws (o .at) ≡ false) × (coverFaultAt ≡ 0)
+          unfolding coverCause
+          good = go (lacks 1 ws (o .at)) refl (sym fq ∙ z)
+            where
+              go : (l : Bool) → lacks 1 ws (o .at) ≡ l → _≡_ {A = ℕ} (cond l 6 coverFaultAt) 0 → (lacks 1 ws (o .at) ≡ false) × (coverFaultAt ≡ 0)
+              go true e q = let x : ⊥ = omega arith in absurd x
+              go false e q = (e, q)
+
+          pub cover-room : o .at + 1 < length ws
+          cover-room = lacks-room 1 ws (o .at) (good .0) (stands-is 7 ws (o .at) k .0)
+
+          cover-is : coverTurn ws (o .at) ≡ some (coverAt ws (o .at)) 0 (o .at + 2)
+          cover-is = cover-turn ∙ turn-on ws (o .at) 7 (stands-is 7 ws (o .at) k .1) coverFaultAt (some (coverAt ws (o .at)) 0) (good .0) (good .1)
+
+          module _ (d : Draw) (dq : d ≡ drawHere ws begin (o .at) (o .credit)) (c : OpenCredit) (cq : c ≡ plusCover (o .credit) (d .amount)) where
+            abbrev behindCover : OpenSet
+            behindCover = record { at = o .at + 2; tally = o .tally; credit = c }
+
+            credit-is : c ≡ plusCover (o .credit) (sizeOf (word ws (o .at + 1)))
+            credit-is = cq ∙ ap (λ (x : Draw). plusCover (o .credit) (x .amount)) dq
+
+            pub cover-on : fromCover bands ws begin (o .tally) (o .credit) (o .at) ≡ after (d ∷ []) (setAhead bands ws begin behindCover)
+            unfolding setAhead
+            cover-on = rw (dq, credit-is) (cover-more bands ws begin (o .tally) (o .credit) (o .at) (s .within) (o .at + 2) cover-is)
+
+            pub cover-sound : SoundSet ws begin behindCover
+            cover-sound =
+                rw credit-is (record {
+                  short = s .short;
+                  within = omega (arith, cover-room);
+                  small = open-small;
+                  credit = λ x. record {
+                    before = omega (arith, open-here .before);
+                    under = open-here .under;
+                    covered = omega (arith, open-here .covered);
+                  };
+                })
+
+    -- anything else
+    module _ (k : stands 7 ws (o .at) ≡ false) where
+      closed-small : SmallTally (tallyWith ws (o .tally) (o .credit) 0) (o .at)
+      unfolding writtenAt
+      closed-small =
+          let gain = gain-small (word ws (o .credit .place + 1)) in
+          let loss = loss-small (word ws (o .credit .place + 1)) in
+          let add-on = written-add-on (writtenAt ws (o .credit .place) []) in
+          record {
+            weight = omega (arith, open-small .weight, open-here .before, open-here .covered, gain, add-on);
+            losses = omega (arith, open-small .losses, open-here .before, loss);
+            uncovered = omega (arith, open-small .uncovered);
+          }
+
+      module _ (t : Tally)
+          (q : t ≡ plusWritten (o .tally) (writtenOf (word ws (o .credit .place)) (word ws (o .credit .place + 1)) (word ws (o .credit .place + 2)) (word ws (o .credit .place + 3)) 0 (word ws (o .credit .place + 5)) []) (o .credit .covered)) where
+        tally-is : t ≡ tallyWith ws (o .tally) (o .credit) 0
+        unfolding writtenAt writtenAddOn
+        tally-is = q ∙ simp add-zero
+
+        pub closes : setAhead bands ws begin o ≡ fromMember bands ws begin t (o .at)
+        unfolding coverTurn
+        closes = some-open ∙ rw tally-is (cover-over bands ws begin (o .tally) (o .credit) (o .at) (s .within) (simp k))
+
+        pub closed-sound : SmallTally t (o .at)
+        closed-sound = rw tally-is closed-small

@@ -1,7 +1,8 @@
 pub mod Truth
 pub mod AddOns
-pub mod Covering
-pub mod Turns
-pub mod Weighing
 pub mod SetRows
 pub mod Entry
+pub mod Ahead
+pub mod Turns
+pub mod Covering
+pub mod Weighing

@@ -1,67 +1,45 @@
--- What the turn of a member of a set comes to, by what the calls on the way gave. Assumes nothing.
-use Prim.Native.Nat.{ℕ, zero, suc, _+_, _^_, _≤_, _<_}
+-- What stands where a member of a set is due: what lies ahead behind it, and how large the tally is. Assumes nothing.
+use Prim.Native.Nat.{ℕ, zero, suc, _+_, _-_, _*_, _^_, _≤_, _<_}
 use mathlib.Core.Path.{_≡_, refl, sym, _∙_, ap}
-use mathlib.Core.Bool.{Bool, true, false}
-use mathlib.Core.List.{List, []}
-use native.Mathlib.Nat.{zero-add}
+use mathlib.Core.Bool.{Bool, true, false, cond}
+use mathlib.Core.List.{List, [], _∷_}
 use native.Mathlib.Omega.{arith}
-use borrow.Author.Tests.{lt-ltb, le-ltb, eq-eqb, ne-eqb, ltb-false}
+use borrow.Author.Tests.{le-ltb, lt-ltb, eq-eqb, ne-eqb, ltb-false}
 use lib.ListN.{length}
 use Rattle.rules.specs.declared.Bands.{Bands}
-use Rattle.rules.specs.Word.{word, kindOf, sizeOf, amountsOfKind}
-use Rattle.rules.specs.Book.{Cover, Member, trade, written, total}
-use Rattle.rules.specs.Run.{Turn, some, Run, runFrom}
-use Rattle.rules.specs.Faults.{cause, tradeFault, writtenFault}
-use Rattle.rules.specs.Weigh.{writtenAddOn}
-use Rattle.rules.specs.Read.{lacks, recordThen, coverTurn, writtenAt, withCovers, writtenTurn, tradeAt, tradeTurn, memberTurn}
+use Rattle.rules.specs.declared.Draw.{Draw}
+use Rattle.rules.specs.Word.{word, kindOf, sizeOf}
+use Rattle.rules.specs.Book.{Cover, Member, trade, written}
+use Rattle.rules.specs.Run.{Turn, bad, some, runFrom}
+use Rattle.rules.specs.Faults.{cause, tradeFault, writtenFault, coverFault}
+use Rattle.rules.specs.Weigh.{lossIn, addOnIn, uncoveredIn, writtenAddOn}
+use Rattle.rules.specs.Read.{lacks, stands, recordThen, coverAt, coverTurn, writtenAt, withCovers, writtenTurn, tradeAt, tradeTurn, memberTurn}
+use Rattle.rules.proofs.Runs.{FineTurn}
 use Rattle.records.proofs.Words.{room, turn-lacks, turn-fault, turn-on}
+use Rattle.theorems.proofs.Records.{stands-is}
+use Rattle.theorems.proofs.FactorBounds.{gain-small, loss-small, trade-add-on, written-add-on}
+use Rattle.theorems.proofs.MemberBounds.{perWord, memberWeight, fine-member}
 use Rattle.derivatives.specs.declared.tally.Tally.{Tally}
-use Rattle.derivatives.specs.declared.covers.Covers.{Covers}
-use Rattle.derivatives.specs.declared.covers.Covers.the-variants.{Sum, Fault}
-use Rattle.derivatives.specs.declared.members.MemberStep.the-variants.{Next, End, Stop}
-use Rattle.derivatives.specs.Gathered.{plusMember, plusWritten, tradeOf, writtenOf}
-use Rattle.derivatives.specs.Steps.{Begins, coversBy, coversOf, memberStep}
-use Rattle.derivatives.proofs.Covering.{amountIn, fine-covers}
+use Rattle.derivatives.specs.declared.covers.OpenCredit.{OpenCredit}
+use Rattle.derivatives.specs.declared.set.OpenSet.{OpenSet}
+use Rattle.derivatives.specs.Gathered.{plusMember, plusWritten, tradeOf, writtenOf, RoomyTally}
+use Rattle.derivatives.specs.Ahead.{gathered, broken, endsWith, after, fromMember, fromCover, setAhead, tallyWith, coverCause, drawHere, plusCover, noCredit, SmallTally, OpenIn, SoundSet, Standing}
+use Rattle.derivatives.proofs.Ahead.{opening, member-over, member-bad, member-trade, member-opens, cover-over, cover-bad, cover-more}
 
--- ---- a record of a known kind
+-- ---- how large a tally is
 
-module _ (bands : Bands) (t : Tally) (ws : List ℕ) (at kind : ℕ) (k : kindOf (word ws at) ≡ kind) (f : ℕ) (next : ℕ → Turn Member) where
-  step-lacks : lacks (amountsOfKind kind) ws at ≡ true → Stop 6 at ≡ memberStep bands t (recordThen ws at f next)
-  step-lacks e = sym (ap (λ (u : Turn Member). memberStep bands t u) (turn-lacks ws at kind k f next e))
+pub small-roomy : (t : Tally) (at : ℕ) → SmallTally t at → at ≤ 2 ^ 20 → RoomyTally t
+small-roomy t at s h = record {
+  gains = omega (arith, s .weight);
+  losses = omega (arith, s .losses);
+  gross = omega (arith, s .weight);
+  uncovered = omega (arith, s .weight, s .uncovered);
+  written = omega (arith, s .weight);
+  covered = omega (arith, s .weight);
+}
 
-  step-fault : lacks (amountsOfKind kind) ws at ≡ false → (f ≡ 0 → ⊥) → Stop f at ≡ memberStep bands t (recordThen ws at f next)
-  step-fault e h = sym (ap (λ (u : Turn Member). memberStep bands t u) (turn-fault ws at kind k f next e h))
+-- ---- a chain of causes that comes to 0: the first does not hold, and the rest comes to 0
 
-  step-on : lacks (amountsOfKind kind) ws at ≡ false → f ≡ 0 → memberStep bands t (next (at + suc (amountsOfKind kind))) ≡ memberStep bands t (recordThen ws at f next)
-  step-on e h = sym (ap (λ (u : Turn Member). memberStep bands t u) (turn-on ws at kind k f next e h))
-
--- ---- kind 5
-
-module _ (bands : Bands) (t : Tally) (ws : List ℕ) (at : ℕ) (b : Begins ws at 5) (l : Bool) (lq : l ≡ lacks 4 ws at) where
-  abbrev tradeFaultAt : ℕ
-  tradeFaultAt = tradeFault (word ws at) (word ws (at + 1)) (word ws (at + 2)) (word ws (at + 3)) (word ws (at + 4))
-
-  pub trade-lacks : l ≡ true → Stop 6 at ≡ memberStep bands t (tradeTurn ws at)
-  unfolding tradeTurn
-  trade-lacks e = step-lacks bands t ws at 5 (b .has-kind) tradeFaultAt (some (trade (tradeAt ws at)) 0) (sym lq ∙ e)
-
-  module _ (e : l ≡ false) where
-    module _ (f : ℕ) (fq : f ≡ tradeFaultAt) where
-      pub trade-wrong : (f ≡ 0 → ⊥) → Stop f at ≡ memberStep bands t (tradeTurn ws at)
-      unfolding tradeTurn
-      trade-wrong h =
-          ap (λ (n : ℕ). Stop n at) fq ∙ step-fault bands t ws at 5 (b .has-kind) tradeFaultAt (some (trade (tradeAt ws at)) 0) (sym lq ∙ e) (λ z. h (fq ∙ z))
-
-      pub trade-on : f ≡ 0 → (more : Tally)
-          → more ≡ plusMember bands t (trade (tradeOf (word ws at) (word ws (at + 1)) (word ws (at + 2)) (word ws (at + 3)) (word ws (at + 4))))
-          → Next more (at + 5) ≡ memberStep bands t (tradeTurn ws at)
-      unfolding tradeTurn tradeAt
-      trade-on h more q =
-          ap (λ (m : Tally). Next m (at + 5)) q ∙ step-on bands t ws at 5 (b .has-kind) tradeFaultAt (some (trade (tradeAt ws at)) 0) (sym lq ∙ e) (sym fq ∙ h)
-
--- ---- kind 6
-
--- a chain of causes that comes to 0: the first does not hold, and the rest comes to 0
 cause-none : (n : ℕ) (t : Bool) (next : ℕ) → cause (suc n) t next ≡ 0 → (t ≡ false) × (next ≡ 0)
 unfolding cause
 cause-none n true next e = let z : ⊥ = omega arith in absurd z
@@ -74,82 +52,120 @@ loss-under w value notional lossTaken days premiums f q e =
     let b = cause-none 7 _ _ a .1 in
     ltb-false _ _ (cause-none 8 _ _ b .0)
 
--- the covers' answer, by the run that it is of
-fault-is : (bands : Bands) (t : Tally) (m : Member) (number sum place n p : ℕ) → coversBy number sum place ≡ Fault n p → Stop n p ≡ memberStep bands t (some m number place)
-fault-is bands t m zero sum place n p e = let z : _≡_ {A = ℕ} 0 1 = cc in absurd (omega arith)
-fault-is bands t m (suc number) sum place n p e = cc
+-- ---- a trade or a written credit
 
-sum-is : (bands : Bands) (t : Tally) (m : Member) (number sum place x p : ℕ) → coversBy number sum place ≡ Sum x p
-    → (x ≡ sum) × (Next (plusMember bands t m) p ≡ memberStep bands t (some m number place))
-sum-is bands t m zero sum place x p e = (cc, cc)
-sum-is bands t m (suc number) sum place x p e = let z : _≡_ {A = ℕ} 0 1 = cc in absurd (omega arith)
-
-module _ (bands : Bands) (t : Tally) (ws : List ℕ) (at : ℕ) (b : Begins ws at 6) (l : Bool) (lq : l ≡ lacks 5 ws at) where
-  abbrev writtenFaultAt : ℕ
-  writtenFaultAt = writtenFault (word ws at) (word ws (at + 1)) (word ws (at + 2)) (word ws (at + 3)) (word ws (at + 4)) (word ws (at + 5))
-
-  abbrev coverRun : ℕ → Run Cover
-  coverRun next = runFrom (coverTurn ws) (suc (length ws)) next
-
-  pub written-lacks : l ≡ true → Stop 6 at ≡ memberStep bands t (writtenTurn ws at)
-  unfolding writtenTurn
-  written-lacks e = step-lacks bands t ws at 6 (b .has-kind) writtenFaultAt (λ (next : ℕ). withCovers ws at (coverRun next)) (sym lq ∙ e)
-
-  module _ (e : l ≡ false) where
-    module _ (f : ℕ) (fq : f ≡ writtenFaultAt) where
-      pub written-wrong : (f ≡ 0 → ⊥) → Stop f at ≡ memberStep bands t (writtenTurn ws at)
-      unfolding writtenTurn
-      written-wrong h =
-          ap (λ (n : ℕ). Stop n at) fq
-          ∙ step-fault bands t ws at 6 (b .has-kind) writtenFaultAt (λ (next : ℕ). withCovers ws at (coverRun next)) (sym lq ∙ e) (λ z. h (fq ∙ z))
-
-      module _ (h : f ≡ 0) where
-        written-on : memberStep bands t (withCovers ws at (coverRun (at + 6))) ≡ memberStep bands t (writtenTurn ws at)
-        unfolding writtenTurn
-        written-on = step-on bands t ws at 6 (b .has-kind) writtenFaultAt (λ (next : ℕ). withCovers ws at (coverRun next)) (sym lq ∙ e) (sym fq ∙ h)
-
-        abbrev memberHere : Member
-        memberHere = written (writtenAt ws at (coverRun (at + 6) .records))
-
-        module _ (r : Covers) (rq : r ≡ coversOf ws (at + 6)) where
-          pub covers-wrong : (n p : ℕ) → r ≡ Fault n p → Stop n p ≡ memberStep bands t (writtenTurn ws at)
-          unfolding coversOf
-          covers-wrong n p q = fault-is bands t memberHere (coverRun (at + 6) .number) _ (coverRun (at + 6) .place) n p (sym rq ∙ q) ∙ written-on
-
-          module _ (x p : ℕ) (q : r ≡ Sum x p) where
-            summed : (x ≡ total amountIn (coverRun (at + 6) .records)) × (Next (plusMember bands t memberHere) p ≡ memberStep bands t (withCovers ws at (coverRun (at + 6))))
-            unfolding coversOf
-            summed =
-                let s = sum-is bands t memberHere (coverRun (at + 6) .number) (0 + total amountIn (coverRun (at + 6) .records)) (coverRun (at + 6) .place) x p (sym rq ∙ q) in
-                (s .0 ∙ zero-add _, s .1)
-
-            pub covered-small : x ≤ 2 ^ 62
-            covered-small =
-                let c = fine-covers ws (at + 6) (omega (arith, room 5 5 ws at l lq e (b .within) (omega arith))) in
-                omega (arith, c .small, c .within, summed .0, b .short)
-
-            pub covers-on : (more : Tally)
-                → more ≡ plusWritten t (writtenOf (word ws at) (word ws (at + 1)) (word ws (at + 2)) (word ws (at + 3)) 0 (word ws (at + 5)) []) x
-                → Next more p ≡ memberStep bands t (writtenTurn ws at)
-            unfolding writtenAt writtenAddOn
-            covers-on more mq = ap (λ (m : Tally). Next m p) (mq ∙ ap (λ (x : ℕ). plusWritten t (writtenOf (word ws at) (word ws (at + 1)) (word ws (at + 2)) (word ws (at + 3)) 0 (word ws (at + 5)) []) x) (summed .0)) ∙ summed .1 ∙ written-on
-
--- ---- by the kind that stands there
-
-module _ (ws : List ℕ) (at : ℕ) where
-  pub member-beyond : (bands : Bands) (t : Tally) → length ws ≤ at → End ≡ memberStep bands t (memberTurn ws at)
+module _ (bands : Bands) (ws : List ℕ) (begin : ℕ) (t : Tally) (at : ℕ) (s : Standing ws begin at t) where
+  -- by the kind that stands there
+  pub none-beyond : length ws ≤ at → fromMember bands ws begin t at ≡ endsWith (gathered t at)
   unfolding memberTurn
-  member-beyond bands t h = simp (le-ltb at (length ws) h)
+  none-beyond h = member-over bands ws begin t at (s .within) (simp (le-ltb at (length ws) h))
 
   module _ (h : at < length ws) (k : ℕ) (kq : k ≡ kindOf (word ws at)) where
-    pub member-trade : k ≡ 5 → tradeTurn ws at ≡ memberTurn ws at
-    unfolding memberTurn
-    member-trade e = simp (lt-ltb at (length ws) h, ← kq, eq-eqb k 5 e)
+    pub stands-there : (kind : ℕ) → k ≡ kind → stands kind ws at ≡ true
+    stands-there kind e = simp (lt-ltb at (length ws) h, ← kq, eq-eqb k kind e)
 
-    pub member-written : (k ≡ 5 → ⊥) → k ≡ 6 → writtenTurn ws at ≡ memberTurn ws at
+    pub none-there : (k ≡ 5 → ⊥) → (k ≡ 6 → ⊥) → fromMember bands ws begin t at ≡ endsWith (gathered t at)
     unfolding memberTurn
-    member-written n e = simp (lt-ltb at (length ws) h, ← kq, ne-eqb k 5 n, eq-eqb k 6 e)
+    none-there n m = member-over bands ws begin t at (s .within) (simp (lt-ltb at (length ws) h, ← kq, ne-eqb k 5 n, ne-eqb k 6 m))
 
-    pub member-none : (bands : Bands) (t : Tally) → (k ≡ 5 → ⊥) → (k ≡ 6 → ⊥) → End ≡ memberStep bands t (memberTurn ws at)
-    unfolding memberTurn
-    member-none bands t n m = simp (lt-ltb at (length ws) h, ← kq, ne-eqb k 5 n, ne-eqb k 6 m)
+  -- kind 5
+  module _ (k : stands 5 ws at ≡ true) (l : Bool) (lq : l ≡ lacks 4 ws at) where
+    abbrev tradeFaultAt : ℕ
+    tradeFaultAt = tradeFault (word ws at) (word ws (at + 1)) (word ws (at + 2)) (word ws (at + 3)) (word ws (at + 4))
+
+    trade-turn : memberTurn ws at ≡ recordThen ws at tradeFaultAt (some (trade (tradeAt ws at)) 0)
+    unfolding memberTurn tradeTurn
+    trade-turn = simp k
+
+    pub trade-lacks : l ≡ true → fromMember bands ws begin t at ≡ endsWith (broken 6 at)
+    trade-lacks e =
+        member-bad bands ws begin t at (s .within) 6 at (trade-turn ∙ turn-lacks ws at 5 (stands-is 5 ws at k .1) tradeFaultAt (some (trade (tradeAt ws at)) 0) (sym lq ∙ e)) (λ z. omega arith)
+
+    module _ (e : l ≡ false) (f : ℕ) (fq : f ≡ tradeFaultAt) where
+      pub trade-wrong : (f ≡ 0 → ⊥) → fromMember bands ws begin t at ≡ endsWith (broken f at)
+      trade-wrong n =
+          member-bad bands ws begin t at (s .within) f at
+          (trade-turn ∙ turn-fault ws at 5 (stands-is 5 ws at k .1) tradeFaultAt (some (trade (tradeAt ws at)) 0) (sym lq ∙ e) (λ z. n (fq ∙ z)) ∙ ap (λ (x : ℕ). bad x at) (sym fq)) n
+
+      module _ (z : f ≡ 0) where
+        trade-is : memberTurn ws at ≡ some (trade (tradeAt ws at)) 0 (at + 5)
+        trade-is = trade-turn ∙ turn-on ws at 5 (stands-is 5 ws at k .1) tradeFaultAt (some (trade (tradeAt ws at)) 0) (sym lq ∙ e) (sym fq ∙ z)
+
+        trade-small : SmallTally (plusMember bands t (trade (tradeAt ws at))) (at + 5)
+        unfolding tradeAt
+        trade-small =
+            let w : FineTurn (length ws) perWord (memberWeight bands) at (some (trade (tradeAt ws at)) 0 (at + 5)) = rw trade-is at (fine-member bands ws at (s .within)) in
+            record {
+              weight = omega (arith, s .small .weight, w .2);
+              losses = omega (arith, s .small .losses, loss-small (word ws (at + 1)));
+              uncovered = omega (arith, s .small .uncovered);
+            }
+
+        module _ (more : Tally) (mq : more ≡ plusMember bands t (trade (tradeOf (word ws at) (word ws (at + 1)) (word ws (at + 2)) (word ws (at + 3)) (word ws (at + 4))))) (c : OpenCredit) (cq : c ≡ noCredit) where
+          abbrev behindTrade : OpenSet
+          behindTrade = record { at = at + 5; tally = more; credit = c }
+
+          pub trade-on : fromMember bands ws begin t at ≡ setAhead bands ws begin behindTrade
+          unfolding setAhead tradeAt
+          trade-on = rw (cq, mq) (member-trade bands ws begin t at (s .within) (tradeAt ws at) (at + 5) trade-is)
+
+          pub trade-sound : SoundSet ws begin behindTrade × (at < at + 5)
+          unfolding tradeAt
+          trade-sound =
+              rw (cq, mq) (
+                record {
+                  short = s .short;
+                  within = omega (arith, room 4 4 ws at l lq e (stands-is 5 ws at k .0) (omega arith));
+                  small = trade-small;
+                  credit = λ x. let y : _≡_ {A = ℕ} 0 1 = cc in absurd (omega arith);
+                },
+                omega arith,
+              )
+
+  -- kind 6, which opens
+  module _ (k : stands 6 ws at ≡ true) (l : Bool) (lq : l ≡ lacks 5 ws at) where
+    abbrev writtenFaultAt : ℕ
+    writtenFaultAt = writtenFault (word ws at) (word ws (at + 1)) (word ws (at + 2)) (word ws (at + 3)) (word ws (at + 4)) (word ws (at + 5))
+
+    abbrev covers : ℕ → Turn Member
+    covers next = withCovers ws at (runFrom (coverTurn ws) (suc (length ws)) next)
+
+    no-trade : stands 5 ws at ≡ false
+    no-trade = let k6 = stands-is 6 ws at k in simp (lt-ltb at (length ws) (k6 .0), k6 .1)
+
+    written-turn : memberTurn ws at ≡ recordThen ws at writtenFaultAt covers
+    unfolding memberTurn writtenTurn
+    written-turn = simp (no-trade, k)
+
+    pub written-lacks : l ≡ true → fromMember bands ws begin t at ≡ endsWith (broken 6 at)
+    written-lacks e =
+        member-bad bands ws begin t at (s .within) 6 at (written-turn ∙ turn-lacks ws at 6 (stands-is 6 ws at k .1) writtenFaultAt covers (sym lq ∙ e)) (λ z. omega arith)
+
+    module _ (e : l ≡ false) (f : ℕ) (fq : f ≡ writtenFaultAt) where
+      pub written-wrong : (f ≡ 0 → ⊥) → fromMember bands ws begin t at ≡ endsWith (broken f at)
+      written-wrong n =
+          member-bad bands ws begin t at (s .within) f at
+          (written-turn ∙ turn-fault ws at 6 (stands-is 6 ws at k .1) writtenFaultAt covers (sym lq ∙ e) (λ z. n (fq ∙ z)) ∙ ap (λ (x : ℕ). bad x at) (sym fq)) n
+
+      module _ (z : f ≡ 0) (c : OpenCredit) (cq : c ≡ opening bands ws begin t at (s .within)) where
+        abbrev behindWritten : OpenSet
+        behindWritten = record { at = at + 6; tally = t; credit = c }
+
+        pub written-on : fromMember bands ws begin t at ≡ setAhead bands ws begin behindWritten
+        unfolding setAhead
+        written-on =
+            rw cq
+            (member-opens bands ws begin t at (s .within)
+            (written-turn ∙ turn-on ws at 6 (stands-is 6 ws at k .1) writtenFaultAt covers (sym lq ∙ e) (sym fq ∙ z)))
+
+        pub written-sound : SoundSet ws begin behindWritten × (at < at + 6)
+        written-sound =
+            rw cq (
+              record {
+                short = s .short;
+                within = omega (arith, room 5 5 ws at l lq e (stands-is 6 ws at k .0) (omega arith));
+                small = s .small;
+                credit = λ x. record { before = omega arith; under = loss-under _ _ _ _ _ _ f fq z; covered = omega arith };
+              },
+              omega arith,
+            )

@@ -1,2 +1,2 @@
 pub mod Gathered
-pub mod Steps
+pub mod Ahead

@@ -1,37 +1,89 @@
-// The covers behind a written credit.
+// The written credit whose covers are being read, and the next of them.
 use crate::faults::cover_fault;
 use records::presence::lacking;
 use records::presence::standing;
+use rules::Draw;
 use words::amount::size;
+use words::numbers::short_of;
 use words::numbers::wide;
+use words::parts::field;
+ghost use mathlib.Core.Bool.{_&&_};
 ghost use mathlib.Core.Path.{_≡_};
-ghost use Prim.Native.Nat.{_^_, _≤_};
+ghost use Prim.Native.Nat.{_+_, _≤_, _<_, _^_};
 ghost use lib.ListN.{length};
 ghost use denote.Ref.{now};
-ghost use Rattle.derivatives.specs.Steps.{coversOf};
+ghost use Rattle.rules.specs.Read.{stands};
+ghost use Rattle.derivatives.specs.Ahead.{OpenIn, coverCause, drawHere, noCredit, plusCover};
 
-// The sum of the covers and the place behind them, or the number and the place of the first fault.
-pub enum Covers {
-    Sum(u64, usize),
-    Fault(u32, usize),
+// A written credit whose covers may follow: where its record stands, what its covers so far come to, and what they leave of its
+// notional minus loss.
+pub struct OpenCredit {
+    pub allowed: bool,
+    pub place: usize,
+    pub covered: u64,
+    pub room: u32,
 }
 
-pub fn cover_sum(part: &[u32], at: usize) -> Covers
-    requires { ⌜ (at ≤ length (now part)) × (length (now part) ≤ 2 ^ 20) ⌝ }
-    ensures { λ r. ⌜ r ≡ coversOf (now (part .entry)) at ⌝ }
+pub fn no_credit() -> OpenCredit
+    ensures { λ r. ⌜ r ≡ noCredit ⌝ }
 {
-    let mut sum = 0u64;
-    let mut next = at;
-    while standing(part, next, 7) {
-        if lacking(part, next, 1) {
-            return Covers::Fault(6, next);
-        }
-        let fault = cover_fault(part[next], part[next + 1]);
-        if fault != 0 {
-            return Covers::Fault(fault, next);
-        }
-        sum = sum + wide(size(part[next + 1]));
-        next += 2;
+    OpenCredit {
+        allowed: false,
+        place: 0,
+        covered: 0,
+        room: 0,
     }
-    Covers::Sum(sum, next)
+}
+
+// "7 cover, after a 6 or its covers".
+pub fn cover_due(part: &[u32], at: usize, c: OpenCredit) -> bool
+    ensures { λ r. ⌜ r ≡ (c .allowed && stands 7 (now (part .entry)) at) ⌝ }
+{
+    if c.allowed {
+        return standing(part, at, 7);
+    }
+    false
+}
+
+// The number of the cause for which the cover at a place is faulty by itself, or 0.
+pub fn cover_cause(part: &[u32], at: usize) -> u32
+    requires { ⌜ (at < length (now part)) × (length (now part) ≤ 2 ^ 20) ⌝ }
+    ensures { λ r. ⌜ r ≡ coverCause (now (part .entry)) at ⌝ }
+{
+    if lacking(part, at, 1) {
+        return 6;
+    }
+    cover_fault(part[at], part[at + 1])
+}
+
+// The cover at a place, as a draw. The part begins at a place of the book.
+pub fn draw_here(part: &[u32], begin: usize, at: usize, c: OpenCredit) -> Draw
+    requires { ⌜ OpenIn (now part) c at × ((at + 1 < length (now part)) × (begin + length (now part) ≤ 2 ^ 20)) ⌝ }
+    ensures { λ r. ⌜ r ≡ drawHere (now (part .entry)) begin at c ⌝ }
+{
+    let place = c.place;
+    let w = part[place];
+    Draw {
+        at: begin + at,
+        entity: field(w, 0, 16),
+        rank: field(w, 16, 4),
+        days: size(part[place + 4]),
+        room: c.room,
+        protection: field(part[at], 0, 12),
+        amount: size(part[at + 1]),
+    }
+}
+
+// The credit with one cover more.
+pub fn with_cover(c: OpenCredit, amount: u32) -> OpenCredit
+    requires { ⌜ c .covered ≤ 2 ^ 62 ⌝ }
+    ensures { λ r. ⌜ r ≡ plusCover c amount ⌝ }
+{
+    let before = c.room;
+    OpenCredit {
+        allowed: true,
+        place: c.place,
+        covered: c.covered + wide(amount),
+        room: short_of(before, amount),
+    }
 }

@@ -1,48 +1,116 @@
 // The members of a derivative set: trades, and written credits with their covers.
-use crate::covers::Covers;
-use crate::covers::cover_sum;
+use crate::covers::OpenCredit;
+use crate::covers::cover_cause;
+use crate::covers::cover_due;
+use crate::covers::draw_here;
+use crate::covers::no_credit;
+use crate::covers::with_cover;
 use crate::faults::trade_fault;
 use crate::faults::written_fault;
+use crate::set::OpenSet;
 use crate::tally::Tally;
 use records::presence::lacking;
 use rules::Bands;
+use rules::Draw;
+use words::amount::size;
 use words::parts::kind;
 ghost use mathlib.Core.Path.{_≡_};
-ghost use Prim.Native.Nat.{_^_, _≤_};
+ghost use mathlib.Core.Bool.{true, false};
+ghost use Prim.Native.Nat.{_+_, _^_, _≤_};
 ghost use lib.ListN.{length};
 ghost use denote.Ref.{now};
-ghost use Rattle.rules.specs.Read.{memberTurn, tradeTurn, writtenTurn};
-ghost use Rattle.derivatives.specs.Gathered.{RoomyTally};
-ghost use Rattle.derivatives.specs.Steps.{Begins, memberStep};
+ghost use Rattle.rules.specs.Read.{stands};
+ghost use Rattle.derivatives.specs.Ahead.{Standing, SmallTally, SoundSet, SoundStep, fromCover, fromMember, setAhead, stepAhead};
 
-// The tally with the member in it and the place behind it; no member; or the number and the place of the first fault.
+// The set with one member more; the next cover, and the set behind it; no member, and the tally of all; or the number and the place of
+// the first fault.
 pub enum MemberStep {
-    Next(Tally, usize),
-    End,
+    Next(OpenSet),
+    Drawing(Draw, OpenSet),
+    End(Tally),
     Stop(u32, usize),
 }
 
-pub fn member(part: &[u32], at: usize, t: Tally, bands: Bands) -> MemberStep
-    requires { ⌜ RoomyTally t × (length (now part) ≤ 2 ^ 20) ⌝ }
-    ensures { λ r. ⌜ r ≡ memberStep bands t (memberTurn (now (part .entry)) at) ⌝ }
+// Where a credit is open its covers come first; any other record closes it.
+pub fn member(part: &[u32], begin: usize, o: OpenSet, bands: Bands) -> MemberStep
+    requires { ⌜ SoundSet (now part) begin o ⌝ }
+    ensures { λ r. ⌜ (setAhead bands (now (part .entry)) begin o ≡ stepAhead bands (now (part .entry)) begin (o .at) r)
+        × SoundStep (now (part .entry)) begin (o .at) r ⌝ }
+{
+    let at = o.at;
+    if cover_due(part, at, o.credit) {
+        return cover(part, begin, o, bands);
+    }
+    member_at(part, begin, at, closed(part, begin, o, bands), bands)
+}
+
+// Kind 7. The bands decide nothing here.
+fn cover(part: &[u32], begin: usize, o: OpenSet, bands: Bands) -> MemberStep
+    requires { ⌜ SoundSet (now part) begin o × ((o .credit .allowed ≡ true) × (stands 7 (now part) (o .at) ≡ true)) ⌝ }
+    ensures { λ r. ⌜ (fromCover bands (now (part .entry)) begin (o .tally) (o .credit) (o .at) ≡ stepAhead bands (now (part .entry)) begin (o .at) r)
+        × SoundStep (now (part .entry)) begin (o .at) r ⌝ }
+{
+    let at = o.at;
+    let t = o.tally;
+    let c = o.credit;
+    let cause = cover_cause(part, at);
+    if cause != 0 {
+        return MemberStep::Stop(cause, at);
+    }
+    let draw = draw_here(part, begin, at, c);
+    let next = OpenSet {
+        at: at + 2,
+        tally: t,
+        credit: with_cover(c, draw.amount),
+    };
+    MemberStep::Drawing(draw, next)
+}
+
+// The tally with the open credit in it, now that its covers are over.
+fn closed(part: &[u32], begin: usize, o: OpenSet, bands: Bands) -> Tally
+    requires { ⌜ SoundSet (now part) begin o × (o .credit .allowed ≡ true → stands 7 (now part) (o .at) ≡ false) ⌝ }
+    ensures { λ r. ⌜ (setAhead bands (now (part .entry)) begin o ≡ fromMember bands (now (part .entry)) begin r (o .at)) × SmallTally r (o .at) ⌝ }
+{
+    let c = o.credit;
+    let t = o.tally;
+    if c.allowed {
+        let p = c.place;
+        return t.add_written(
+            part[p],
+            part[p + 1],
+            part[p + 2],
+            part[p + 3],
+            part[p + 5],
+            c.covered,
+        );
+    }
+    t
+}
+
+// What stands where a trade or a written credit is due.
+fn member_at(part: &[u32], begin: usize, at: usize, t: Tally, bands: Bands) -> MemberStep
+    requires { ⌜ Standing (now part) begin at t ⌝ }
+    ensures { λ r. ⌜ (fromMember bands (now (part .entry)) begin t at ≡ stepAhead bands (now (part .entry)) begin at r)
+        × SoundStep (now (part .entry)) begin at r ⌝ }
 {
     if at >= part.len() {
-        return MemberStep::End;
+        return MemberStep::End(t);
     }
     let k = kind(part[at]);
     if k == 5 {
-        return trade(part, at, t, bands);
+        return trade(part, begin, at, t, bands);
     }
     if k == 6 {
-        return written(part, at, t, bands);
+        return written(part, begin, at, t, bands);
     }
-    MemberStep::End
+    MemberStep::End(t)
 }
 
 // Kind 5.
-fn trade(part: &[u32], at: usize, t: Tally, bands: Bands) -> MemberStep
-    requires { ⌜ RoomyTally t × Begins (now part) at 5 ⌝ }
-    ensures { λ r. ⌜ r ≡ memberStep bands t (tradeTurn (now (part .entry)) at) ⌝ }
+fn trade(part: &[u32], begin: usize, at: usize, t: Tally, bands: Bands) -> MemberStep
+    requires { ⌜ Standing (now part) begin at t × (stands 5 (now part) at ≡ true) ⌝ }
+    ensures { λ r. ⌜ (fromMember bands (now (part .entry)) begin t at ≡ stepAhead bands (now (part .entry)) begin at r)
+        × SoundStep (now (part .entry)) begin at r ⌝ }
 {
     if lacking(part, at, 4) {
         return MemberStep::Stop(6, at);
@@ -56,32 +124,46 @@ fn trade(part: &[u32], at: usize, t: Tally, bands: Bands) -> MemberStep
     if fault != 0 {
         return MemberStep::Stop(fault, at);
     }
-    let more = t.add_trade(bands, w, value, notional, days, reset_days);
-    MemberStep::Next(more, at + 5)
+    let next = OpenSet {
+        at: at + 5,
+        tally: t.add_trade(bands, w, value, notional, days, reset_days),
+        credit: no_credit(),
+    };
+    MemberStep::Next(next)
 }
 
-// Kind 6, with its covers. The bands decide nothing here: a written credit's factor goes by its reference alone.
-fn written(part: &[u32], at: usize, t: Tally, bands: Bands) -> MemberStep
-    requires { ⌜ RoomyTally t × Begins (now part) at 6 ⌝ }
-    ensures { λ r. ⌜ r ≡ memberStep bands t (writtenTurn (now (part .entry)) at) ⌝ }
+// Kind 6, which opens; its covers are read one by one. The bands decide nothing here: a written credit's factor goes by its reference.
+fn written(part: &[u32], begin: usize, at: usize, t: Tally, bands: Bands) -> MemberStep
+    requires { ⌜ Standing (now part) begin at t × (stands 6 (now part) at ≡ true) ⌝ }
+    ensures { λ r. ⌜ (fromMember bands (now (part .entry)) begin t at ≡ stepAhead bands (now (part .entry)) begin at r)
+        × SoundStep (now (part .entry)) begin at r ⌝ }
 {
     if lacking(part, at, 5) {
         return MemberStep::Stop(6, at);
     }
-    let w = part[at];
-    let value = part[at + 1];
     let notional = part[at + 2];
     let loss_taken = part[at + 3];
-    let premiums = part[at + 5];
-    let fault = written_fault(w, value, notional, loss_taken, part[at + 4], premiums);
+    let fault = written_fault(
+        part[at],
+        part[at + 1],
+        notional,
+        loss_taken,
+        part[at + 4],
+        part[at + 5],
+    );
     if fault != 0 {
         return MemberStep::Stop(fault, at);
     }
-    match cover_sum(part, at + 6) {
-        Covers::Fault(number, place) => MemberStep::Stop(number, place),
-        Covers::Sum(covered, next) => {
-            let more = t.add_written(w, value, notional, loss_taken, premiums, covered);
-            MemberStep::Next(more, next)
-        }
-    }
+    let credit = OpenCredit {
+        allowed: true,
+        place: at,
+        covered: 0,
+        room: size(notional) - size(loss_taken),
+    };
+    let next = OpenSet {
+        at: at + 6,
+        tally: t,
+        credit: credit,
+    };
+    MemberStep::Next(next)
 }

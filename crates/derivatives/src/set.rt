@@ -1,35 +1,59 @@
-// The members of a derivative set, one after the other.
+// The members of a derivative set, one after the other, up to the next cover.
+use crate::covers::OpenCredit;
+use crate::covers::no_credit;
 use crate::members::MemberStep;
 use crate::members::member;
 use crate::tally::Tally;
 use rules::Bands;
+use rules::Draw;
 ghost use mathlib.Core.Path.{_≡_};
-ghost use Prim.Native.Nat.{_^_, _≤_};
-ghost use lib.ListN.{length};
 ghost use denote.Ref.{now};
-ghost use Rattle.derivatives.specs.Steps.{weighedOf};
+ghost use Rattle.derivatives.specs.Ahead.{SoundSet, SoundWeighed, openedSet, setAhead, weighedAhead};
 
-// What the members of a set come to and the place behind them, or the number and the place of the first fault.
+// A set that is being read: the place of its next member or cover, what its members so far come to, and the written credit whose
+// covers may follow, which is not in the tally yet. Places count from the set's head.
+pub struct OpenSet {
+    pub at: usize,
+    pub tally: Tally,
+    pub credit: OpenCredit,
+}
+
+// The next cover of the set, and the set behind it; what all its members come to and the place behind them; or the number and the
+// place of the first fault.
 pub enum Weighed {
-    Set(Tally, usize),
+    Covering(Draw, OpenSet),
+    Whole(Tally, usize),
     Refused(u32, usize),
 }
 
-// The words of a set from its head on; its members stand behind its three amounts.
-pub fn weigh(part: &[u32], bands: Bands) -> Weighed
-    requires { ⌜ (4 ≤ length (now part)) × (length (now part) ≤ 2 ^ 20) ⌝ }
-    ensures { λ r. ⌜ r ≡ weighedOf bands (now (part .entry)) ⌝ }
+// A set whose head was read: its members stand behind its three amounts.
+pub fn opened() -> OpenSet
+    ensures { λ r. ⌜ r ≡ openedSet ⌝ }
 {
-    let mut t = Tally::new();
-    let mut at = 4;
+    OpenSet {
+        at: 4,
+        tally: Tally::new(),
+        credit: no_credit(),
+    }
+}
+
+// The words of a set from its head on, which stands at a place of the book.
+pub fn weigh(part: &[u32], begin: usize, from: OpenSet, bands: Bands) -> Weighed
+    requires { ⌜ SoundSet (now part) begin from ⌝ }
+    ensures { λ r. ⌜ (setAhead bands (now (part .entry)) begin from ≡ weighedAhead bands (now (part .entry)) begin r)
+        × SoundWeighed (now (part .entry)) begin r ⌝ }
+{
+    let mut o = from;
     loop {
-        match member(part, at, t, bands) {
-            MemberStep::Next(more, next) => {
-                t = more;
-                at = next;
+        match member(part, begin, o, bands) {
+            MemberStep::Next(next) => {
+                o = next;
             }
-            MemberStep::End => {
-                return Weighed::Set(t, at);
+            MemberStep::Drawing(draw, next) => {
+                return Weighed::Covering(draw, next);
+            }
+            MemberStep::End(t) => {
+                return Weighed::Whole(t, o.at);
             }
             MemberStep::Stop(number, place) => {
                 return Weighed::Refused(number, place);

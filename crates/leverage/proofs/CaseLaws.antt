@@ -1,10 +1,7 @@
 -- The cases of the answers, as the code's matches meet them. Assumes nothing.
 use Prim.Native.Nat.{ℕ, _≤_}
 use mathlib.Core.Path.{_≡_, refl, _∙_, ap}
-use mathlib.Core.Bool.{cond}
 use mathlib.Core.List.{List, _++_}
-use borrow.Author.Tests.{eq-eqb, ne-eqb}
-use lib.Dec.{eqb}
 use lib.IntN.{ℤ, pos}
 use lib.ListN.{length, drop, List·getD-eq-default}
 use Rattle.rules.specs.declared.Sums.{Sums}
@@ -15,38 +12,20 @@ use Rattle.rules.specs.Rows.{exposureRow, rowsOf}
 use Rattle.template.specs.Sections.{Small}
 use Rattle.reading.specs.declared.Reading.{Reading}
 use Rattle.reading.specs.declared.Reading.the-variants.{Whole, Fault}
-use Rattle.register.specs.declared.Settlement.{Settlement}
 use Rattle.leverage.specs.declared.Admission.{Admission}
 use Rattle.leverage.specs.declared.Admission.the-variants.{Early, Within, Admitted}
 use Rattle.leverage.specs.declared.Answer.the-variants.{Refused, Accepted}
-use Rattle.leverage.specs.Answers.{concluded, stopOf, uncleared, answerTo, rowsTo, Publishable}
+use Rattle.leverage.specs.Answers.{concluded, answerTo, rowsTo, Publishable}
 
 -- a word beyond the book is 0
 pub no-word : (ws : List ℕ) (at : ℕ) → length ws ≤ at → word ws at ≡ 0
 no-word ws at h = List·getD-eq-default ws 0 h
 
-module _ (r : Reading) (s : Settlement) where
-  pub unfit-cover : (s .number ≡ 0 → ⊥) → Within (s .number) (s .place) ≡ concluded r s
-  unfit-cover n = go r
-    where
-      go : (x : Reading) → Within (s .number) (s .place) ≡ concluded x s
-      go (Whole sums place) = simp (ne-eqb (s .number) 0 n)
-      go (Fault number place) = simp (ne-eqb (s .number) 0 n)
+pub concluded-whole : (r : Reading) (sums : Sums) (place : ℕ) → r ≡ Whole sums place → Admitted sums ≡ concluded r
+concluded-whole r sums place e = rw e
 
-  pub all-whole : s .number ≡ 0 → (sums : Sums) (place : ℕ) → r ≡ Whole sums place → Admitted sums ≡ concluded r s
-  all-whole z sums place e = rw e (simp (eq-eqb (s .number) 0 z))
-
-  pub faulty-record : s .number ≡ 0 → (number place : ℕ) → r ≡ Fault number place → Within number place ≡ concluded r s
-  faulty-record z number place e = rw e (simp (eq-eqb (s .number) 0 z))
-
-  pub uncleared-fault : (number place : ℕ) → r ≡ Fault number place → eqb (s .number) 0 ≡ uncleared r s
-  uncleared-fault number place e = rw e
-
-pub stop-whole : (r : Reading) (sums : Sums) (place : ℕ) → r ≡ Whole sums place → cond (eqb (sums .covered) 0) 0 place ≡ stopOf r
-stop-whole r sums place e = rw e
-
-pub stop-fault : (r : Reading) (number place : ℕ) → r ≡ Fault number place → place ≡ stopOf r
-stop-fault r number place e = rw e
+pub concluded-fault : (r : Reading) (number place : ℕ) → r ≡ Fault number place → Within number place ≡ concluded r
+concluded-fault r number place e = rw e
 
 module _ (head : Head) (rows : List ℤ) (a : Admission) where
   pub to-early : (number : ℕ) → a ≡ Early number → (Refused number 0 ≡ answerTo head a) × (rows ≡ rowsTo head a rows)

@@ -26,77 +26,49 @@ use denote.Plain.{uint-makes}
 use denote.Builtin.{u32, usize, bool, i64}
 use denote.Slice.{sliceVal, Room}
 use denote.Steps.{only, owned, nothing}
-use denote.Enum.Declared.{Declared, row}
 use denote.Enum.Laws as LE
 use denote.Triple.Spec.{tripleOf}
 use denote.Triple.Statement.{Contract}
 use denote.Triple.Clauses.{Lasts}
 use denote.Triple.Walked.{says}
 use Rattle.rules.specs.declared.Entry.{Entry}
-use Rattle.rules.specs.Read.{headOf, itemsOf}
+use Rattle.rules.specs.Read.{headOf}
 use Rattle.rules.specs.Filing.{admission, registerAfter}
 use Rattle.reading.specs.declared.Reading.{Reading}
-use Rattle.reading.specs.Steps.{readingOf}
 use Rattle.reading.proofs.Reading as TR
-use Rattle.reading.proofs.Reading.Laws as TR′
-use Rattle.reading.proofs.whole.read as read′
-use Rattle.register.specs.declared.Settlement.{Settlement}
-use Rattle.register.proofs.Settlement as TS
-use Rattle.register.proofs.Rows.{R, mach-settlement, IsSettlement, settlement-makes}
+use Rattle.register.proofs.Rows.{KnownCase, told-case, known-case, R, mach-reading, IsReading, reading-makes}
 use Rattle.register.proofs.Relend.{slice, Claim}
 use Rattle.register.proofs.Lent.{mut-own, shr-own, left, left-shared, left-both, Call, calls-plain, calls-passed, calls-both}
 use Rattle.leverage.specs.declared.Admission.{Admission}
 use Rattle.leverage.specs.declared.Answer.{Answer}
-use Rattle.leverage.specs.Answers.{earlyNumber, stopOf, concluded, uncleared, admissionOf, answerTo, rowsTo, Publishable}
+use Rattle.leverage.specs.Answers.{earlyNumber, concluded, faulty, admissionOf, answerTo, rowsTo, Publishable}
 use Rattle.leverage.proofs.Admission as TA
 use Rattle.leverage.proofs.Admission.Laws as TA′
 use Rattle.leverage.proofs.Answer as TN
 use Rattle.leverage.proofs.Answer.Laws as TN′
 use Rattle.leverage.proofs.early.early as early′
 use Rattle.leverage.proofs.early.protections_of as protections′
-use Rattle.leverage.proofs.stages.stop_of as stop-of′
-use Rattle.leverage.proofs.stages.is_uncleared as uncleared′
+use Rattle.leverage.proofs.stages.is_fault as is-fault′
 use Rattle.leverage.proofs.stages.conclude as conclude′
 use Rattle.leverage.proofs.admit.admit as admit′
 use Rattle.leverage.proofs.report.report as report′
 
 -- ---- the enums
 
-module _ (T : Declared) (L : LE.Laws T) where
-  -- what is known of a value that is held
-  abbrev pub Known : T .D → Type 0
-  Known d = Is (row T) d (LE.val T L d ∷ [])
-
-  -- what is known at a machine value u tells u
-  told : (d : T .D) (u : Val) → Is (row T) d (u ∷ []) → u ≡ LE.val T L d
-  told d u is = ap only (LE.tells T L d (u ∷ []) is)
-
-  known : (d : T .D) (u : Val) → Is (row T) d (u ∷ []) → Known d
-  known d u is = subst (λ (v : Val). Is (row T) d (v ∷ [])) (told d u is) is
-
-abbrev pub mach-reading : Reading → Val
-mach-reading = LE.val TR.the-type TR′.the-laws
-
-abbrev pub IsReading : Reading → Type 0
-IsReading = Known TR.the-type TR′.the-laws
-
 abbrev pub mach-admission : Admission → Val
 mach-admission = LE.val TA.the-type TA′.the-laws
 
 abbrev pub IsAdmission : Admission → Type 0
-IsAdmission = Known TA.the-type TA′.the-laws
+IsAdmission = KnownCase TA.the-type TA′.the-laws
 
 abbrev pub mach-answer : Answer → Val
 mach-answer = LE.val TN.the-type TN′.the-laws
 
 abbrev pub IsAnswer : Answer → Type 0
-IsAnswer = Known TN.the-type TN′.the-laws
+IsAnswer = KnownCase TN.the-type TN′.the-laws
 
 module _ {M : Type 1} (𝓤 : URA M) (H : Heap 𝓤) (A : Atoms 𝓤) where
   -- what each owns is had for nothing
-  pub reading-makes : Makes 𝓤 H A TR.the-row (Is TR.the-row)
-  reading-makes = LE.makes TR.the-type TR′.the-plain 𝓤 H A
-
   pub admission-makes : Makes 𝓤 H A TA.the-row (Is TA.the-row)
   admission-makes = LE.makes TA.the-type TA′.the-plain 𝓤 H A
 
@@ -105,9 +77,6 @@ module _ {M : Type 1} (𝓤 : URA M) (H : Heap 𝓤) (A : Atoms 𝓤) where
 
   -- each may be stored
   module _ (W : Given 𝓤 H A) where
-    pub typed-reading : (r : Reading) → IsReading r → Holds (hasTy TR′.mir (mach-reading r)) × WT (mach-reading r)
-    typed-reading r g = LE.lawful TR.the-type TR′.the-laws 𝓤 H A W tt .typed r _ g .0
-
     pub typed-admission : (a : Admission) → IsAdmission a → Holds (hasTy TA′.mir (mach-admission a)) × WT (mach-admission a)
     typed-admission a g = LE.lawful TA.the-type TA′.the-laws 𝓤 H A W tt .typed a _ g .0
 
@@ -123,14 +92,8 @@ module _ {M : Type 1} (𝓤 : URA M) (H : Heap 𝓤) (A : Atoms 𝓤) (mem : Mem
   abbrev pub Protections : Contract 𝓤
   Protections = tripleOf 𝓤 H A protections′.signature (protections′.spec 𝓤 H A mem run)
 
-  abbrev pub Read : Contract 𝓤
-  Read = tripleOf 𝓤 H A read′.signature (read′.spec 𝓤 H A mem run)
-
-  abbrev pub Stop : Contract 𝓤
-  Stop = tripleOf 𝓤 H A stop-of′.signature (stop-of′.spec 𝓤 H A mem run)
-
-  abbrev pub Uncleared : Contract 𝓤
-  Uncleared = tripleOf 𝓤 H A uncleared′.signature (uncleared′.spec 𝓤 H A mem run)
+  abbrev pub IsFault : Contract 𝓤
+  IsFault = tripleOf 𝓤 H A is-fault′.signature (is-fault′.spec 𝓤 H A mem run)
 
   abbrev pub Conclude : Contract 𝓤
   Conclude = tripleOf 𝓤 H A conclude′.signature (conclude′.spec 𝓤 H A mem run)
@@ -144,27 +107,17 @@ module _ {M : Type 1} (𝓤 : URA M) (H : Heap 𝓤) (A : Atoms 𝓤) (mem : Mem
   -- ---- what each binds outside, and that what is handed over is what it asks
 
   module _ (W : Given 𝓤 H A) where
-    abbrev pub to-stop : Reading → Stop .Ghost
-    to-stop r = ((tt, tt, tt, (r, tt), (mach-reading r ∷ [], tt)), tt)
+    abbrev pub to-is-fault : Reading → IsFault .Ghost
+    to-is-fault r = ((tt, tt, tt, (r, tt), (mach-reading r ∷ [], tt)), tt)
 
-    pub stop-pre : (r : Reading) → IsReading r → ent 𝓤 (emp 𝓤) (Stop .pre (to-stop r))
-    stop-pre r is = qed W [] ∵ nothing ! $ nothing ! $ nothing ! $ owned ! TR.the-row (Is TR.the-row) (reading-makes 𝓤 H A) r _ is $ fjoin ! $ move ! (1 ∷ 0 ∷ []) $ join ! $ join ! $ done !
+    pub is-fault-pre : (r : Reading) → IsReading r → ent 𝓤 (emp 𝓤) (IsFault .pre (to-is-fault r))
+    is-fault-pre r is = qed W [] ∵ nothing ! $ nothing ! $ nothing ! $ owned ! TR.the-row (Is TR.the-row) (reading-makes 𝓤 H A) r _ is $ fjoin ! $ move ! (1 ∷ 0 ∷ []) $ join ! $ join ! $ done !
 
-    abbrev pub to-uncleared : Reading → Settlement → Uncleared .Ghost
-    to-uncleared r s = ((tt, tt, tt, (r, (s, tt)), (mach-reading r ∷ [], (mach-settlement s ∷ [], tt))), tt)
+    abbrev pub to-conclude : Reading → Conclude .Ghost
+    to-conclude r = ((tt, tt, tt, (r, tt), (mach-reading r ∷ [], tt)), tt)
 
-    pub uncleared-pre : (r : Reading) (s : Settlement) → IsReading r → IsSettlement s → ent 𝓤 (emp 𝓤) (Uncleared .pre (to-uncleared r s))
-    uncleared-pre r s r-is s-is =
-        qed W [] ∵ nothing ! $ nothing ! $ nothing ! $ owned ! TS.the-row (Is TS.the-row) (settlement-makes 𝓤 H A) s _ s-is $ fjoin ! $
-        owned ! TR.the-row (Is TR.the-row) (reading-makes 𝓤 H A) r _ r-is $ fjoin ! $ move ! (1 ∷ 0 ∷ []) $ join ! $ join ! $ done !
-
-    abbrev pub to-conclude : Reading → Settlement → Conclude .Ghost
-    to-conclude r s = ((tt, tt, tt, (r, (s, tt)), (mach-reading r ∷ [], (mach-settlement s ∷ [], tt))), tt)
-
-    pub conclude-pre : (r : Reading) (s : Settlement) → IsReading r → IsSettlement s → ent 𝓤 (emp 𝓤) (Conclude .pre (to-conclude r s))
-    conclude-pre r s r-is s-is =
-        qed W [] ∵ nothing ! $ nothing ! $ nothing ! $ owned ! TS.the-row (Is TS.the-row) (settlement-makes 𝓤 H A) s _ s-is $ fjoin ! $
-        owned ! TR.the-row (Is TR.the-row) (reading-makes 𝓤 H A) r _ r-is $ fjoin ! $ move ! (1 ∷ 0 ∷ []) $ join ! $ join ! $ done !
+    pub conclude-pre : (r : Reading) → IsReading r → ent 𝓤 (emp 𝓤) (Conclude .pre (to-conclude r))
+    conclude-pre r is = qed W [] ∵ nothing ! $ nothing ! $ nothing ! $ owned ! TR.the-row (Is TR.the-row) (reading-makes 𝓤 H A) r _ is $ fjoin ! $ move ! (1 ∷ 0 ∷ []) $ join ! $ join ! $ done !
 
     -- over the book
     module _ (κ : Lft) (p : Share) (b o : ℕ) (γ : GName) (m : ℕ) (ws : List ℕ) where
@@ -187,13 +140,6 @@ module _ {M : Type 1} (𝓤 : URA M) (H : Heap 𝓤) (A : Atoms 𝓤) (mem : Mem
       protections-pre =
           qed W (‵ (flft κ p) ∷ ‵ (shr-own u32 (named 0) κ γ b o m ws) ∷ []) ∵ nothing ! $ nothing ! $ nothing ! $
           move ! (4 ∷ 0 ∷ []) $ fjoin ! $ move ! (3 ∷ 1 ∷ []) $ join ! $ join ! $ join ! $ done !
-
-      abbrev pub to-read : Read .Ghost
-      to-read = (((κ, tt), (p, tt), tt, (slice b o γ ws, tt), (sliceVal (b, o) m ∷ [], tt)), tt)
-
-      pub read-pre : (2 ≤ length ws) × (length ws ≤ 2 ^ 20) → ent 𝓤 Given-book (Read .pre to-read)
-      read-pre asked =
-          qed W (‵ (flft κ p) ∷ ‵ (shr-own u32 (named 0) κ γ b o m ws) ∷ []) ∵ says ! asked $ nothing ! $ move ! (1 ∷ 0 ∷ []) $ join ! $ frame ! $ nothing ! $ move ! (1 ∷ 0 ∷ []) $ fjoin ! $ done !
 
       -- over the book and a lent slice
       abbrev pub to-admit : (b₁ o₁ n : ℕ) (ys : List Entry) → ℕ → GName → Admit .Ghost
@@ -219,29 +165,21 @@ module _ {M : Type 1} (𝓤 : URA M) (H : Heap 𝓤) (A : Atoms 𝓤) (mem : Mem
 module _ {M : Type 1} {𝓤 : URA M} {H : Heap 𝓤} {A : Atoms 𝓤} {K : Type 0} {W : Given 𝓤 H A} {Γ : List (Item 𝓤)} {E : Env 𝓤 H} {xs : List Operand} {G : Goal 𝓤 H} {after : Val → Goal 𝓤 H} (t : K) (mem : Memory → SProp 𝓤) (run : Routine → Fun 𝓤) where
   -- ---- over plain values
 
-  pub calls-stop : Call K W E xs (Stop 𝓤 H A mem run) G after → (r : Reading) → IsReading r
-      → Opds K W (raw (Stop 𝓤 H A mem run .pre (to-stop 𝓤 H A mem run W r)) ∷ Γ) E xs (mach-reading r ∷ [])
-      → ((p : ℕ) → p < 2 ^ 64 → p ≡ stopOf r → Seq K W Γ (after (vint w64 p))) → Seq K W Γ G
-  calls-stop cl r is os k =
-      calls-plain {H = H} {A = A} {W = W} t (Stop 𝓤 H A mem run) cl (to-stop 𝓤 H A mem run W r) (stop-pre 𝓤 H A mem run W r is)
-      (λ p w. Is usize p (w ∷ []) × (p ≡ stopOf r)) (λ w. left 𝓤 H A W usize (Lasts stop-of′.ended tt (r, tt)) (λ _. fsep ftrue ftrue) (λ p. p ≡ stopOf r) w)
-      os (λ w p is. regoal t after (ap only (is .0 .0)) refl $ k p (is .0 .1) (is .1))
-
-  pub calls-uncleared : Call K W E xs (Uncleared 𝓤 H A mem run) G after → (r : Reading) (s : Settlement) → IsReading r → IsSettlement s
-      → Opds K W (raw (Uncleared 𝓤 H A mem run .pre (to-uncleared 𝓤 H A mem run W r s)) ∷ Γ) E xs (mach-reading r ∷ mach-settlement s ∷ [])
-      → ((y : Bool) → y ≡ uncleared r s → Seq K W Γ (after (vbool y))) → Seq K W Γ G
-  calls-uncleared cl r s r-is s-is os k =
-      calls-plain {H = H} {A = A} {W = W} t (Uncleared 𝓤 H A mem run) cl (to-uncleared 𝓤 H A mem run W r s) (uncleared-pre 𝓤 H A mem run W r s r-is s-is)
-      (λ y w. Is bool y (w ∷ []) × (y ≡ uncleared r s)) (λ w. left 𝓤 H A W bool (Lasts uncleared′.ended tt (r, (s, tt))) (λ _. fsep ftrue (fsep ftrue ftrue)) (λ y. y ≡ uncleared r s) w)
+  pub calls-is-fault : Call K W E xs (IsFault 𝓤 H A mem run) G after → (r : Reading) → IsReading r
+      → Opds K W (raw (IsFault 𝓤 H A mem run .pre (to-is-fault 𝓤 H A mem run W r)) ∷ Γ) E xs (mach-reading r ∷ [])
+      → ((y : Bool) → y ≡ faulty r → Seq K W Γ (after (vbool y))) → Seq K W Γ G
+  calls-is-fault cl r is os k =
+      calls-plain {H = H} {A = A} {W = W} t (IsFault 𝓤 H A mem run) cl (to-is-fault 𝓤 H A mem run W r) (is-fault-pre 𝓤 H A mem run W r is)
+      (λ y w. Is bool y (w ∷ []) × (y ≡ faulty r)) (λ w. left 𝓤 H A W bool (Lasts is-fault′.ended tt (r, tt)) (λ _. fsep ftrue ftrue) (λ y. y ≡ faulty r) w)
       os (λ w y is. regoal t after (ap only (is .0)) refl $ k y (is .1))
 
-  pub calls-conclude : Call K W E xs (Conclude 𝓤 H A mem run) G after → (r : Reading) (s : Settlement) → IsReading r → IsSettlement s
-      → Opds K W (raw (Conclude 𝓤 H A mem run .pre (to-conclude 𝓤 H A mem run W r s)) ∷ Γ) E xs (mach-reading r ∷ mach-settlement s ∷ [])
-      → ((a : Admission) → IsAdmission a → a ≡ concluded r s → Seq K W Γ (after (mach-admission a))) → Seq K W Γ G
-  calls-conclude cl r s r-is s-is os k =
-      calls-plain {H = H} {A = A} {W = W} t (Conclude 𝓤 H A mem run) cl (to-conclude 𝓤 H A mem run W r s) (conclude-pre 𝓤 H A mem run W r s r-is s-is)
-      (λ a w. Is TA.the-row a (w ∷ []) × (a ≡ concluded r s)) (λ w. left 𝓤 H A W TA.the-row (Lasts conclude′.ended tt (r, (s, tt))) (λ _. fsep ftrue (fsep ftrue ftrue)) (λ a. a ≡ concluded r s) w)
-      os (λ w a is. regoal t after (told TA.the-type TA′.the-laws a w (is .0)) refl $ k a (known TA.the-type TA′.the-laws a w (is .0)) (is .1))
+  pub calls-conclude : Call K W E xs (Conclude 𝓤 H A mem run) G after → (r : Reading) → IsReading r
+      → Opds K W (raw (Conclude 𝓤 H A mem run .pre (to-conclude 𝓤 H A mem run W r)) ∷ Γ) E xs (mach-reading r ∷ [])
+      → ((a : Admission) → IsAdmission a → a ≡ concluded r → Seq K W Γ (after (mach-admission a))) → Seq K W Γ G
+  calls-conclude cl r is os k =
+      calls-plain {H = H} {A = A} {W = W} t (Conclude 𝓤 H A mem run) cl (to-conclude 𝓤 H A mem run W r) (conclude-pre 𝓤 H A mem run W r is)
+      (λ a w. Is TA.the-row a (w ∷ []) × (a ≡ concluded r)) (λ w. left 𝓤 H A W TA.the-row (Lasts conclude′.ended tt (r, tt)) (λ _. fsep ftrue ftrue) (λ a. a ≡ concluded r) w)
+      os (λ w a is. regoal t after (told-case TA.the-type TA′.the-laws a w (is .0)) refl $ k a (known-case TA.the-type TA′.the-laws a w (is .0)) (is .1))
 
   -- ---- over the book
 
@@ -265,16 +203,6 @@ module _ {M : Type 1} {𝓤 : URA M} {H : Heap 𝓤} {A : Atoms 𝓤} {K : Type 
       (λ w. left-shared 𝓤 H A W usize κ p (Lasts protections′.ended (κ, tt) (slice b o γ ws, tt)) (λ _. fsep ftrue ftrue) (λ r. r ≡ headOf ws .protections) w)
       os (λ w r is. regoal t after (ap only (is .0 .0) ∙ ap (vint w64) (is .1)) refl $ k (subst (λ (n : ℕ). n < 2 ^ 64) (is .1) (is .0 .1)))
 
-  pub calls-read : Call K W E xs (Read 𝓤 H A mem run) G after → (ℓ : Lifetime) {κ : Lft} {p : Share} {γ : GName} {b o m : ℕ} (ws : List ℕ) → (2 ≤ length ws) × (length ws ≤ 2 ^ 20)
-      → Opds K W (raw (Read 𝓤 H A mem run .pre (to-read 𝓤 H A mem run W κ p b o γ m ws)) ∷ ‵ (shr-own u32 ℓ κ γ b o m ws) ∷ Γ) E xs (sliceVal (b, o) m ∷ [])
-      → ((r : Reading) → IsReading r → r ≡ readingOf (headOf ws .bands) (itemsOf ws) → Seq K W (‵ (shr-own u32 ℓ κ γ b o m ws) ∷ ‵ (flft κ p) ∷ Γ) (after (mach-reading r)))
-      → Seq K W (‵ (shr-own u32 ℓ κ γ b o m ws) ∷ ‵ (flft κ p) ∷ Γ) G
-  calls-read cl ℓ {κ} {p} {γ} {b} {o} {m} ws asked os k =
-      calls-passed {H = H} {A = A} {W = W} t (Read 𝓤 H A mem run) cl u32 ℓ ws (to-read 𝓤 H A mem run W κ p b o γ m ws) (read-pre 𝓤 H A mem run W κ p b o γ m ws asked)
-      (λ r w. Is TR.the-row r (w ∷ []) × (r ≡ readingOf (headOf ws .bands) (itemsOf ws)))
-      (λ w. left-shared 𝓤 H A W TR.the-row κ p (Lasts read′.ended (κ, tt) (slice b o γ ws, tt)) (λ _. fsep ftrue ftrue) (λ r. r ≡ readingOf (headOf ws .bands) (itemsOf ws)) w)
-      os (λ w r is. regoal t after (told TR.the-type TR′.the-laws r w (is .0)) refl $ k r (known TR.the-type TR′.the-laws r w (is .0)) (is .1))
-
   -- ---- over the book and a lent slice
 
   pub calls-admit : Call K W E xs (Admit 𝓤 H A mem run) G after → (ℓ : Lifetime) {κ : Lft} {p : Share} {γ : GName} {b o n : ℕ} (ys : List Entry) → length ys ≡ n → Room R n
@@ -288,7 +216,7 @@ module _ {M : Type 1} {𝓤 : URA M} {H : Heap 𝓤} {A : Atoms 𝓤} {K : Type 
       (λ a w zs. Is TA.the-row a (w ∷ []) × ((a ≡ admissionOf (headOf ws .bands) (admission ws (length ys))) × (zs ≡ registerAfter (headOf ws) (admission ws (length ys)) ys)))
       (λ ν δ w. left-both 𝓤 H A W TA.the-row R κ₀ p₀ ν δ (length ys) (Lasts admit′.ended (κ₀, (ν ∷ [], tt)) (slice b₀ o₀ γ₀ ws, (slice b o δ ys, tt))) (λ zs. zs .1 .0) (λ _. ftrue)
       (λ a zs. (a ≡ admissionOf (headOf ws .bands) (admission ws (length ys))) × (zs ≡ registerAfter (headOf ws) (admission ws (length ys)) ys)) w)
-      os (λ w a zs l is. regoal t after (told TA.the-type TA′.the-laws a w (is .0)) refl $ k a zs (known TA.the-type TA′.the-laws a w (is .0)) l (is .1 .0) (is .1 .1))
+      os (λ w a zs l is. regoal t after (told-case TA.the-type TA′.the-laws a w (is .0)) refl $ k a zs (known-case TA.the-type TA′.the-laws a w (is .0)) l (is .1 .0) (is .1 .1))
 
   pub calls-report : Call K W E xs (Report 𝓤 H A mem run) G after → (ℓ : Lifetime) {κ : Lft} {p : Share} {γ : GName} {b o n : ℕ} (rows : List ℤ) → length rows ≡ n → Room i64 n
       → (ℓ₀ : Lifetime) {κ₀ : Lft} {p₀ : Share} {γ₀ : GName} {b₀ o₀ m : ℕ} (ws : List ℕ) (a : Admission) → IsAdmission a → (22 ≤ length rows) × Publishable a
@@ -301,4 +229,4 @@ module _ {M : Type 1} {𝓤 : URA M} {H : Heap 𝓤} {A : Atoms 𝓤} {K : Type 
       (λ r w zs. Is TN.the-row r (w ∷ []) × ((r ≡ answerTo (headOf ws) a) × (zs ≡ rowsTo (headOf ws) a rows)))
       (λ ν δ w. left-both 𝓤 H A W TN.the-row i64 κ₀ p₀ ν δ (length rows) (Lasts report′.ended (κ₀, (ν ∷ [], tt)) (slice b₀ o₀ γ₀ ws, (slice b o δ rows, (a, tt)))) (λ zs. zs .1 .0) (λ _. fsep ftrue ftrue)
       (λ r zs. (r ≡ answerTo (headOf ws) a) × (zs ≡ rowsTo (headOf ws) a rows)) w)
-      os (λ w r zs l is. regoal t after (told TN.the-type TN′.the-laws r w (is .0)) refl $ k r zs (known TN.the-type TN′.the-laws r w (is .0)) l (is .1 .0) (is .1 .1))
+      os (λ w r zs l is. regoal t after (told-case TN.the-type TN′.the-laws r w (is .0)) refl $ k r zs (known-case TN.the-type TN′.the-laws r w (is .0)) l (is .1 .0) (is .1 .1))

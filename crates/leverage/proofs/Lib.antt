@@ -1,6 +1,4 @@
-pub mod Scanned
-pub mod ScannedItems
-pub mod ScannedBook
+pub mod Loads
 pub mod StageLaws
 pub mod FilingLaws
 pub mod CaseLaws

@@ -1,38 +1,33 @@
 -- The stages of a filing, from what each part of the code answers to the definitions. Assumes nothing.
-use Prim.Native.Nat.{ℕ, zero, suc, _+_, _^_, _≤_}
-use mathlib.Core.Path.{_≡_, refl, sym, _∙_, ap, ap₂}
-use mathlib.Core.Bool.{Bool, true, false, not, _||_, cond}
+use Prim.Native.Nat.{ℕ, _^_, _≤_}
+use mathlib.Core.Path.{_≡_, refl, sym, _∙_, ap}
+use mathlib.Core.Bool.{Bool, true, false, not, _||_, cond, true≢false}
 use mathlib.Core.List.{List, [], _∷_, _++_}
 use native.Mathlib.Omega.{arith}
-use borrow.Author.Tests.{ltb-false, le-leb, eqb-true, ne-eqb}
+use borrow.Author.Tests.{ltb-false}
 use lib.Dec.{eqb, ltb}
-use lib.ListN.{length, drop, replicate}
+use lib.ListN.{length, drop, replicate, length-set}
 use lib.Seq.{drop-at}
-use Rattle.rules.specs.declared.Bands.{Bands}
 use Rattle.rules.specs.declared.Draw.{Draw}
 use Rattle.rules.specs.declared.Entry.{Entry}
 use Rattle.rules.specs.Word.{word, kindOf, payloadOf, minusZero}
-use Rattle.rules.specs.Book.{Head, Protection, Placed}
-use Rattle.rules.specs.Run.{Run, ended, runFrom}
-use Rattle.rules.specs.Read.{firstRecord, headFaulty, headOf, protectionTurn, itemTurn, protectionsOf, itemsOf}
-use Rattle.rules.specs.Register.{blank, drawFault, drawn, Settled, unfit, settled, ifFit, settle}
+use Rattle.rules.specs.Book.{Head, Placed}
+use Rattle.rules.specs.Run.{Run}
+use Rattle.rules.specs.Read.{firstRecord, headFaulty, headOf, itemsOf}
+use Rattle.rules.specs.Register.{blank, drawFault, drawn, drawsOver, Settled, unfit, settled, settle}
 use Rattle.rules.specs.Rows.{sumsOf}
-use Rattle.rules.specs.Filing.{Outcome, early, refused, accepted, judged, recordsOutcome, admission, registerAfter, filing}
+use Rattle.rules.specs.Filing.{Outcome, early, refused, accepted, judged, recordsOutcome, admission, registerAfter}
 use Rattle.rules.proofs.Lists.{or-left, or-right}
-use Rattle.rules.proofs.Runs.{fine-run}
-use Rattle.theorems.proofs.MemberBounds.{perWord}
-use Rattle.theorems.proofs.ItemBounds.{placedWeight, fine-item-turn, nothing, fine-protection}
-use Rattle.theorems.proofs.Settling.{settle-length}
-use Rattle.theorems.proofs.Uncovered.{no-cover}
+use Rattle.theorems.proofs.Settling.{settle-one, settle-none}
 use Rattle.reading.specs.declared.Reading.{Reading}
 use Rattle.reading.specs.declared.Reading.the-variants.{Whole, Fault}
 use Rattle.reading.specs.Steps.{readingOf}
-use Rattle.register.specs.declared.Settlement.{Settlement}
-use Rattle.register.specs.Scan.{protectionPlace, loadedFrom, scanFrom, scanned}
-use Rattle.register.specs.Draws.{answerOf, registerOf}
-use Rattle.leverage.specs.declared.Admission.the-variants.{Within}
-use Rattle.leverage.specs.Answers.{earlyNumber, stopOf, concluded, uncleared, admissionOf}
-use Rattle.leverage.proofs.ScannedBook.{records-are, draws-are}
+use Rattle.reading.specs.Ahead.{Ahead, recordsAhead}
+use Rattle.register.specs.Loading.{loadedFrom}
+use Rattle.register.specs.Draws.{firstFault, leftBy, readingAfter, leftAfter}
+use Rattle.register.proofs.Loaded.{loaded-length}
+use Rattle.leverage.specs.Answers.{earlyNumber, concluded, faulty, admissionOf}
+use Rattle.leverage.proofs.Loads.{records-are}
 
 -- ---- before the records
 
@@ -76,145 +71,108 @@ looked-at ws entries r q z = go (ltb (2 ^ 20) (length ws)) refl (headFaulty ws) 
     go false e false f false g h =
         record { short = ltb-false _ _ e; words = head-good ws f .0; count = head-good ws f .1; room = ltb-false _ _ g; outcome = simp (e, f, g) }
 
--- ---- the records
+-- ---- what the draws leave
 
--- an unfit cover has a number that is not 0
-data Proper : Settled → Type 0 where
-  unfits : {number place : ℕ} → Proper (unfit (suc number) place)
-  fits : {entries : List Entry} → Proper (settled entries)
-
-settle-proper : (entries : List Entry) (ds : List Draw) → Proper (settle entries ds)
-unfolding settle
-settle-proper entries [] = fits
-settle-proper entries (d ∷ ds) = go (drawFault entries d) (settle-proper (drawn entries d) ds)
+left-length : (es : List Entry) (ds : List Draw) → length (leftBy es ds) ≡ length es
+unfolding leftBy
+left-length es [] = refl
+left-length es (d ∷ ds) = go (eqb (drawFault es d) 0) (left-length (drawn es d) ds ∙ length-set es _ _)
   where
-    go : (f : ℕ) → Proper (settle (drawn entries d) ds) → Proper (ifFit f (d .at) (settle (drawn entries d) ds))
-    go zero h = h
-    go (suc f) h = unfits
+    go : (x : Bool) → length (leftBy (drawn es d) ds) ≡ length es → length (cond x (leftBy (drawn es d) ds) es) ≡ length es
+    go true h = h
+    go false h = refl
 
--- the first of the two faults
-judged-is : (bands : Bands) (r : Run Placed) (s : Settled) → Proper s → concluded (readingOf bands r) (answerOf s) ≡ admissionOf bands (judged r s)
-unfolding readingOf
-judged-is bands r s (unfits {number = n} {place = p}) = go (eqb (r .number) 0)
-  where
-    go : (b : Bool) → concluded (cond b (Whole (sumsOf bands (r .records)) (r .place)) (Fault (r .number) (r .place))) (record { number = suc n; place = p }) ≡ Within (suc n) p
-    go true = simp (ne-eqb (suc n) 0 (λ z. omega arith))
-    go false = simp (ne-eqb (suc n) 0 (λ z. omega arith))
-judged-is bands r s (fits {entries = entries}) = go (eqb (r .number) 0)
-  where
-    go : (b : Bool) → concluded (cond b (Whole (sumsOf bands (r .records)) (r .place)) (Fault (r .number) (r .place))) (record { number = 0; place = 0 })
-        ≡ admissionOf bands (cond b (accepted (r .records) entries) (refused (r .number) (r .place)))
-    go true = refl
-    go false = refl
+-- where all fit, all of them count
+left-settled : (es : List Entry) (ds : List Draw) (left : List Entry) → settle es ds ≡ settled left → leftBy es ds ≡ left
+unfolding leftBy
+left-settled es [] left e = settle-none es left e
+left-settled es (d ∷ ds) left e = let s = settle-one es d ds left e in simp (s .0) (left-settled (drawn es d) ds left (s .1))
 
-loaded-length : (ws : List ℕ) (n i : ℕ) → length (loadedFrom ws n i) ≡ n
-unfolding loadedFrom
-loaded-length ws zero i = refl
-loaded-length ws (suc n) i = ap suc (loaded-length ws n (suc i))
+-- ---- the first of the two faults: that of the reading r and that of the covers s
 
--- the register after the settling, and after the clearing where that is still to be done
-module _ (head : Head) (bands : Bands) (r : Run Placed) (register : List Entry) where
-  abbrev Kept : Settled → Type 0
-  Kept (unfit number place) = Unit {0}
-  Kept (settled entries) = length entries ≡ head .protections
+module _ (head : Head) (r : Run Placed) where
+  abbrev comes : Settled → Reading
+  comes s = firstFault (readingOf (head .bands) r) s
 
-  left-as-is : (s : Settled) → Proper s → uncleared (readingOf bands r) (answerOf s) ≡ false → registerOf (head .protections) register s ≡ registerAfter head (judged r s) register
+  judged-is : (s : Settled) → concluded (comes s) ≡ admissionOf (head .bands) (judged r s)
   unfolding readingOf
-  left-as-is s (unfits {number = n} {place = p}) e = refl
-  left-as-is s (fits {entries = entries}) e = go (eqb (r .number) 0) e
+  judged-is (unfit number place) = refl
+  judged-is (settled left) = go (eqb (r .number) 0)
     where
-      go : (b : Bool) → uncleared (cond b (Whole (sumsOf bands (r .records)) (r .place)) (Fault (r .number) (r .place))) (record { number = 0; place = 0 }) ≡ false
-          → entries ++ drop (head .protections) register ≡ registerAfter head (cond b (accepted (r .records) entries) (refused (r .number) (r .place))) register
-      go true e = refl
-      go false e = let z : _≡_ {A = ℕ} 0 1 = cc in absurd (omega arith)
+      go : (x : Bool) → concluded (cond x (Whole (sumsOf (head .bands) (r .records)) (r .place)) (Fault (r .number) (r .place)))
+          ≡ admissionOf (head .bands) (cond x (accepted (r .records) left) (refused (r .number) (r .place)))
+      go true = refl
+      go false = refl
 
-  cleared : (s : Settled) → Proper s → Kept s → uncleared (readingOf bands r) (answerOf s) ≡ true
-      → replicate (head .protections) blank ++ drop (head .protections) (registerOf (head .protections) register s) ≡ registerAfter head (judged r s) register
-  unfolding readingOf
-  cleared s (unfits {number = n} {place = p}) k e = go (eqb (r .number) 0) e
-    where
-      go : (b : Bool) → uncleared (cond b (Whole (sumsOf bands (r .records)) (r .place)) (Fault (r .number) (r .place))) (record { number = suc n; place = p }) ≡ true
-          → replicate (head .protections) blank ++ drop (head .protections) (replicate (head .protections) blank ++ drop (head .protections) register) ≡ replicate (head .protections) blank ++ drop (head .protections) register
-      go true e = let z : _≡_ {A = ℕ} 0 1 = cc in absurd (omega arith)
-      go false e = let f = sym (ne-eqb (suc n) 0 (λ z. omega arith)) ∙ e in let z : _≡_ {A = ℕ} 0 1 = cc in absurd (omega arith)
-  cleared s (fits {entries = entries}) k e = go (eqb (r .number) 0) e
-    where
-      go : (b : Bool) → uncleared (cond b (Whole (sumsOf bands (r .records)) (r .place)) (Fault (r .number) (r .place))) (record { number = 0; place = 0 }) ≡ true
-          → replicate (head .protections) blank ++ drop (head .protections) (entries ++ drop (head .protections) register) ≡ registerAfter head (cond b (accepted (r .records) entries) (refused (r .number) (r .place))) register
-      go true e = let z : _≡_ {A = ℕ} 0 1 = cc in absurd (omega arith)
-      go false e = ap (λ (l : List Entry). replicate (head .protections) blank ++ l) (drop-at entries (drop (head .protections) register) (head .protections) k)
+  -- the register with `es` for its first entries; and after the clearing
+  module _ (es before : List Entry) where
+    kept : (s : Settled) → ((left : List Entry) → s ≡ settled left → es ≡ left) → faulty (comes s) ≡ false → es ++ drop (head .protections) before ≡ registerAfter head (judged r s) before
+    unfolding readingOf
+    kept (unfit number place) q e = absurd (true≢false e)
+    kept (settled left) q e = rw (q left refl) (go (eqb (r .number) 0) e)
+      where
+        go : (x : Bool) → faulty (cond x (Whole (sumsOf (head .bands) (r .records)) (r .place)) (Fault (r .number) (r .place))) ≡ false
+            → left ++ drop (head .protections) before ≡ registerAfter head (cond x (accepted (r .records) left) (refused (r .number) (r .place))) before
+        go true e = refl
+        go false e = absurd (true≢false e)
+
+    cleared : length es ≡ head .protections → (s : Settled) → faulty (comes s) ≡ true
+        → replicate (head .protections) blank ++ drop (head .protections) (es ++ drop (head .protections) before) ≡ registerAfter head (judged r s) before
+    unfolding readingOf
+    cleared len s e = ap (λ (l : List Entry). replicate (head .protections) blank ++ l) (drop-at es (drop (head .protections) before) (head .protections) len) ∙ by-fault s e
+      where
+        by-fault : (s : Settled) → faulty (comes s) ≡ true → replicate (head .protections) blank ++ drop (head .protections) before ≡ registerAfter head (judged r s) before
+        by-fault (unfit number place) e = refl
+        by-fault (settled left) e = go (eqb (r .number) 0) e
+          where
+            go : (x : Bool) → faulty (cond x (Whole (sumsOf (head .bands) (r .records)) (r .place)) (Fault (r .number) (r .place))) ≡ true
+                → replicate (head .protections) blank ++ drop (head .protections) before ≡ registerAfter head (cond x (accepted (r .records) left) (refused (r .number) (r .place))) before
+            go true e = absurd (true≢false (sym e))
+            go false e = refl
 
 -- ---- a book whose records are looked at
 
--- up to place 0 there is no cover
-none-scanned : (ws : List ℕ) (b stop : ℕ) → stop ≡ 0 → scanned ws b stop ≡ []
-unfolding scanFrom
-none-scanned ws b stop q = rw q (simp (le-leb 0 (protectionPlace b) (omega arith)))
+records-ahead : (ws : List ℕ) → recordsAhead ws ≡ record { reading = readingOf (headOf ws .bands) (itemsOf ws); draws = drawsOver (itemsOf ws .records) }
+unfolding recordsAhead
+records-ahead ws = refl
 
--- the reading stops in the book
-pub items-within : (ws : List ℕ) → firstRecord ≤ length ws → itemsOf ws .place ≤ length ws
-unfolding itemsOf protectionsOf
-items-within ws h = go (runFrom (protectionTurn ws) (headOf ws .protections) firstRecord) (eqb (runFrom (protectionTurn ws) (headOf ws .protections) firstRecord .number) 0) (fine-run (length ws) perWord nothing (protectionTurn ws) (fine-protection ws) (headOf ws .protections) firstRecord h .within)
-  where
-    go : (r : Run Protection) (b : Bool) → r .place ≤ length ws → cond b (runFrom (itemTurn ws) (suc (length ws)) (r .place)) (ended (r .number) (r .place)) .place ≤ length ws
-    go r true w = fine-run (length ws) perWord (placedWeight (headOf ws .bands)) (itemTurn ws) (fine-item-turn (headOf ws .bands) ws) (suc (length ws)) (r .place) w .within
-    go r false w = w
+module _ (ws : List ℕ) (entries : ℕ) (k : Looked ws entries) where
+  abbrev b : ℕ
+  b = headOf ws .protections
 
-module _ (ws : List ℕ) (entries : ℕ) (k : Looked ws entries) (r : Reading) (rq : r ≡ readingOf (headOf ws .bands) (itemsOf ws)) (stop : ℕ) (sq : stop ≡ stopOf r) where
-  stop-is : (x : Bool) → eqb (itemsOf ws .number) 0 ≡ x → stop ≡ stopOf (cond x (Whole (sumsOf (headOf ws .bands) (itemsOf ws .records)) (itemsOf ws .place)) (Fault (itemsOf ws .number) (itemsOf ws .place)))
-  unfolding readingOf
-  stop-is x e = sq ∙ ap stopOf rq ∙ simp e
+  abbrev ds : List Draw
+  ds = drawsOver (itemsOf ws .records)
 
-  pub stop-within : stop ≤ length ws
-  stop-within = go (eqb (itemsOf ws .number) 0) refl
-    where
-      inside : (c : Bool) → stop ≡ cond c 0 (itemsOf ws .place) → stop ≤ length ws
-      inside true q = omega arith
-      inside false q = omega (arith, items-within ws (k .words))
+  abbrev s : Settled
+  s = settle (loadedFrom ws b 0) ds
 
-      go : (x : Bool) → eqb (itemsOf ws .number) 0 ≡ x → stop ≤ length ws
-      go true e = inside (eqb (sumsOf (headOf ws .bands) (itemsOf ws .records) .covered) 0) (stop-is true e)
-      go false e = inside false (stop-is false e)
+  the-outcome : admission ws entries ≡ judged (itemsOf ws) s
+  the-outcome = k .outcome ∙ records-are ws
 
-  -- the covers up to there are all that stand before the place at which the reading stops
-  same-scan : scanned ws (headOf ws .protections) stop ≡ scanned ws (headOf ws .protections) (itemsOf ws .place)
-  same-scan = go (eqb (itemsOf ws .number) 0) refl
-    where
-      upto : eqb (itemsOf ws .number) 0 ≡ true → (c : Bool) → eqb (sumsOf (headOf ws .bands) (itemsOf ws .records) .covered) 0 ≡ c → stop ≡ cond c 0 (itemsOf ws .place)
-          → scanned ws (headOf ws .protections) stop ≡ scanned ws (headOf ws .protections) (itemsOf ws .place)
-      upto e true z q = none-scanned ws (headOf ws .protections) stop q ∙ sym (draws-are ws (k .words) (eqb-true _ 0 e) ∙ no-cover (headOf ws .bands) ws (eqb-true _ 0 z))
-      upto e false z q = ap (scanned ws (headOf ws .protections)) q
+  the-reading : readingAfter ws b ≡ comes (headOf ws) (itemsOf ws) s
+  unfolding readingAfter
+  the-reading = ap (λ (a : Ahead). firstFault (a .reading) (settle (loadedFrom ws b 0) (a .draws))) (records-ahead ws)
 
-      go : (x : Bool) → eqb (itemsOf ws .number) 0 ≡ x → scanned ws (headOf ws .protections) stop ≡ scanned ws (headOf ws .protections) (itemsOf ws .place)
-      go true e = upto e (eqb (sumsOf (headOf ws .bands) (itemsOf ws .records) .covered) 0) refl (stop-is true e)
-      go false e = ap (scanned ws (headOf ws .protections)) (stop-is false e)
+  the-entries : leftAfter ws b ≡ leftBy (loadedFrom ws b 0) ds
+  unfolding leftAfter
+  the-entries = ap (λ (a : Ahead). leftBy (loadedFrom ws b 0) (a .draws)) (records-ahead ws)
 
-  settled-as : Settled
-  settled-as = settle (loadedFrom ws (headOf ws .protections) 0) (scanned ws (headOf ws .protections) stop)
+  module _ (r : Reading) (rq : r ≡ readingAfter ws b) where
+    pub admitted : concluded r ≡ admissionOf (headOf ws .bands) (admission ws entries)
+    admitted = ap concluded (rq ∙ the-reading) ∙ judged-is (headOf ws) (itemsOf ws) s ∙ ap (admissionOf (headOf ws .bands)) (sym the-outcome)
 
-  the-outcome : admission ws entries ≡ judged (itemsOf ws) settled-as
-  unfolding settled-as
-  the-outcome = k .outcome ∙ records-are ws (k .words) ∙ ap (λ (ds : List Draw). judged (itemsOf ws) (settle (loadedFrom ws (headOf ws .protections) 0) ds)) (sym same-scan)
+    module _ (before after : List Entry) (aq : after ≡ leftAfter ws b ++ drop b before) where
+      after-is : after ≡ leftBy (loadedFrom ws b 0) ds ++ drop b before
+      after-is = aq ∙ ap (λ (es : List Entry). es ++ drop b before) the-entries
 
-  module _ (s : Settlement) (aq : s ≡ answerOf (settle (loadedFrom ws (headOf ws .protections) 0) (scanned ws (headOf ws .protections) stop))) where
-    pub admitted : concluded r s ≡ admissionOf (headOf ws .bands) (admission ws entries)
-    unfolding settled-as
-    admitted = ap₂ concluded rq aq ∙ judged-is (headOf ws .bands) (itemsOf ws) settled-as (settle-proper (loadedFrom ws (headOf ws .protections) 0) (scanned ws (headOf ws .protections) stop)) ∙ ap (admissionOf (headOf ws .bands)) (sym the-outcome)
+      to-outcome : registerAfter (headOf ws) (judged (itemsOf ws) s) before ≡ registerAfter (headOf ws) (admission ws entries) before
+      to-outcome = ap (λ (o : Outcome). registerAfter (headOf ws) o before) (sym the-outcome)
 
-    module _ (before after : List Entry) (bq : after ≡ registerOf (headOf ws .protections) before (settle (loadedFrom ws (headOf ws .protections) 0) (scanned ws (headOf ws .protections) stop))) where
-      pub register-left : uncleared r s ≡ false → after ≡ registerAfter (headOf ws) (admission ws entries) before
-      unfolding settled-as
+      pub register-left : faulty r ≡ false → after ≡ registerAfter (headOf ws) (admission ws entries) before
       register-left e =
-          bq ∙ left-as-is (headOf ws) (headOf ws .bands) (itemsOf ws) before settled-as (settle-proper (loadedFrom ws (headOf ws .protections) 0) (scanned ws (headOf ws .protections) stop)) (sym (ap₂ uncleared rq aq) ∙ e)
-          ∙ ap (λ (o : Outcome). registerAfter (headOf ws) o before) (sym the-outcome)
+          after-is ∙ kept (headOf ws) (itemsOf ws) (leftBy (loadedFrom ws b 0) ds) before s (left-settled (loadedFrom ws b 0) ds) (sym (ap faulty (rq ∙ the-reading)) ∙ e) ∙ to-outcome
 
-      kept : (x : Settled) → settle (loadedFrom ws (headOf ws .protections) 0) (scanned ws (headOf ws .protections) stop) ≡ x → Kept (headOf ws) (headOf ws .bands) (itemsOf ws) before x
-      kept (unfit number place) q = tt
-      kept (settled es) q = settle-length (loadedFrom ws (headOf ws .protections) 0) (scanned ws (headOf ws .protections) stop) es q ∙ loaded-length ws (headOf ws .protections) 0
-
-      pub register-cleared : uncleared r s ≡ true → (last : List Entry) → last ≡ replicate (headOf ws .protections) blank ++ drop (headOf ws .protections) after → last ≡ registerAfter (headOf ws) (admission ws entries) before
-      unfolding settled-as
-      register-cleared e last lq =
-          lq ∙ ap (λ (l : List Entry). replicate (headOf ws .protections) blank ++ drop (headOf ws .protections) l) bq
-          ∙ cleared (headOf ws) (headOf ws .bands) (itemsOf ws) before settled-as (settle-proper (loadedFrom ws (headOf ws .protections) 0) (scanned ws (headOf ws .protections) stop)) (kept settled-as refl) (sym (ap₂ uncleared rq aq) ∙ e)
-          ∙ ap (λ (o : Outcome). registerAfter (headOf ws) o before) (sym the-outcome)
+      pub register-cleared : faulty r ≡ true → replicate b blank ++ drop b after ≡ registerAfter (headOf ws) (admission ws entries) before
+      register-cleared e =
+          ap (λ (l : List Entry). replicate b blank ++ drop b l) after-is
+          ∙ cleared (headOf ws) (itemsOf ws) (leftBy (loadedFrom ws b 0) ds) before (left-length (loadedFrom ws b 0) ds ∙ loaded-length ws b 0) s (sym (ap faulty (rq ∙ the-reading)) ∙ e) ∙ to-outcome

@@ -1,9 +1,9 @@
 -- Document 01, "Where an answer is an enum, the promises use a definition": the number, place and verdict of each case; and the stages of
 -- a filing as the code has them. Assumes nothing.
 use Prim.Native.Nat.{ℕ, _+_, _*_, _%_, _^_}
-use mathlib.Core.Bool.{Bool, false, cond}
+use mathlib.Core.Bool.{Bool, true, false, cond}
 use mathlib.Core.List.{List, _++_}
-use lib.Dec.{eqb, ltb}
+use lib.Dec.{ltb}
 use lib.IntN.{ℤ}
 use lib.ListN.{length, drop}
 use Rattle.rules.specs.declared.Bands.{Bands}
@@ -15,7 +15,6 @@ use Rattle.rules.specs.Rows.{sumsOf, exposureRow, rowsOf}
 use Rattle.rules.specs.Filing.{Outcome, early, refused, accepted, Filing}
 use Rattle.reading.specs.declared.Reading.{Reading}
 use Rattle.reading.specs.declared.Reading.the-variants.{Whole, Fault}
-use Rattle.register.specs.declared.Settlement.{Settlement}
 use Rattle.template.specs.Sections.{Small}
 use Rattle.leverage.specs.declared.Admission.{Admission}
 use Rattle.leverage.specs.declared.Admission.the-variants.{Early, Within, Admitted}
@@ -46,20 +45,14 @@ earlyNumber ws entries =
     (cond (ltb entries (headOf ws .protections)) 4
     0))
 
--- how far covers are settled: up to where the reading stops, or not at all where nothing is covered
-abbrev pub stopOf : Reading → ℕ
-stopOf (Whole sums place) = cond (eqb (sums .covered) 0) 0 place
-stopOf (Fault number place) = place
+-- what the reading comes to
+abbrev pub concluded : Reading → Admission
+concluded (Whole sums place) = Admitted sums
+concluded (Fault number place) = Within number place
 
--- the first of the two faults: the covers all stand before the place at which the reading stops
-abbrev pub concluded : Reading → Settlement → Admission
-concluded (Whole sums place) s = cond (eqb (s .number) 0) (Admitted sums) (Within (s .number) (s .place))
-concluded (Fault number place) s = cond (eqb (s .number) 0) (Within number place) (Within (s .number) (s .place))
-
--- the covers fit and the reading does not: the register is still to be cleared
-abbrev pub uncleared : Reading → Settlement → Bool
-uncleared (Whole sums place) s = false
-uncleared (Fault number place) s = eqb (s .number) 0
+abbrev pub faulty : Reading → Bool
+faulty (Whole sums place) = false
+faulty (Fault number place) = true
 
 -- an outcome as the code has it
 abbrev pub admissionOf : Bands → Outcome → Admission

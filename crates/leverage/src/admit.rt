@@ -3,9 +3,7 @@ use crate::Admission;
 use crate::early::early;
 use crate::early::protections_of;
 use crate::stages::conclude;
-use crate::stages::is_uncleared;
-use crate::stages::stop_of;
-use reading::whole::read;
+use crate::stages::is_fault;
 use register::clear;
 use register::settle;
 use rules::Entry;
@@ -25,11 +23,10 @@ pub fn admit(book: &[u32], register: &mut [Entry]) -> Admission
         return Admission::Early(number);
     }
     let b = protections_of(book);
-    let r = read(book);
-    let s = settle(book, register, b, stop_of(r));
-    if is_uncleared(r, s) {
+    let r = settle(book, register, b);
+    if is_fault(r) {
         clear(register, b);
-        return conclude(r, s);
+        return conclude(r);
     }
-    conclude(r, s)
+    conclude(r)
 }

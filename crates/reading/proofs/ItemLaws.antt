@@ -1,151 +1,178 @@
--- What stands where an item is due, and the loop over the items. Assumes nothing.
+-- A record that stands where an item is due: the part of the book that begins there, its cause, and items without draws. Assumes nothing.
 use Prim.Native.Nat.{ℕ, zero, suc, _+_, _-_, _≤_, _<_}
-use mathlib.Core.Path.{_≡_, sym, _∙_, ap}
-use mathlib.Core.Bool.{Bool, true, false, not, cond}
-use mathlib.Core.List.{List}
+use mathlib.Core.Path.{_≡_, refl, sym, _∙_, ap}
+use mathlib.Core.Bool.{Bool, true, false, cond}
+use mathlib.Core.List.{List, []}
 use native.Mathlib.Omega.{arith}
-use borrow.Author.Tests.{le-leb, lt-leb, eq-eqb, ne-eqb}
-use lib.Dec.{eqb, leb}
+use native.Mathlib.Nat.{add-zero}
+use borrow.Author.Tests.{lt-leb, ne-eqb}
 use lib.ListN.{length, take, drop, length-drop}
 use lib.Seq.{take-all}
 use Rattle.rules.specs.declared.Bands.{Bands}
 use Rattle.rules.specs.declared.Sums.{Sums}
-use Rattle.rules.specs.Word.{word, kindOf, payloadOf, amountsIn}
-use Rattle.rules.specs.Book.{Item, Placed}
-use Rattle.rules.specs.Faults.{cause}
-use Rattle.rules.specs.Run.{Turn, over, bad, some, sound}
-use Rattle.rules.specs.Read.{lacks, recordThen, assetTurn, derivativeSetTurn, financingSetTurn, offBalanceTurn, itemOf, placed, endFault, itemTurn}
+use Rattle.rules.specs.Word.{word, kindOf, amountsIn, amountsOfKind}
+use Rattle.rules.specs.Book.{Item}
+use Rattle.rules.specs.Run.{Turn, bad, some, sound}
+use Rattle.rules.specs.Read.{lacks, recordThen, stands, assetTurn, derivativeSetTurn, financingSetTurn, offBalanceTurn, itemOf, placed, itemTurn}
+use Rattle.rules.specs.Register.{drawsIn}
 use Rattle.rules.proofs.Runs.{FineTurn}
-use Rattle.theorems.proofs.Conserve.{Filled}
-use Rattle.theorems.proofs.Conserve
+use Rattle.theorems.proofs.Records.{stands-is, head-word}
 use Rattle.theorems.proofs.MemberBounds.{perWord}
 use Rattle.theorems.proofs.ItemBounds.{placedWeight, fine-item-turn}
 use Rattle.records.specs.declared.ItemStep.{ItemStep}
 use Rattle.records.specs.declared.ItemStep.the-variants.{Next, Stop}
-use Rattle.records.specs.Step.{plusItem, itemStep}
-use Rattle.reading.specs.declared.items.ItemAnswer.the-variants.{More, End, Halt}
-use Rattle.reading.specs.Steps.{itemAnswer}
+use Rattle.records.specs.Step.{plusItem, itemStep, Part}
+use Rattle.records.proofs.Words.{turn-lacks, turn-fault, turn-on}
+use Rattle.reading.specs.declared.Reading.the-variants.{Fault}
+use Rattle.reading.specs.Steps.{Fair}
+use Rattle.reading.specs.Ahead.{endsAt, fromItem, Onward}
+use Rattle.reading.proofs.AheadLaws.{ahead-bad, ahead-broken, onward}
 
--- ---- an item's turn has an item or a fault
+-- ---- the part of the book
 
-filled-if : {A : Type 0} (b : Bool) {t u : Turn A} → Filled t → Filled u → Filled (cond b t u)
-filled-if true g h = g
-filled-if false g h = h
+-- `&book[at..]`
+abbrev pub partAt : List ℕ → ℕ → List ℕ
+partAt ws at = take (length ws - at) (drop at ws)
 
-filled-record : {A : Type 0} (ws : List ℕ) (at fault : ℕ) (next : ℕ → Turn A) → ((n : ℕ) → Filled (next n)) → Filled (recordThen ws at fault next)
-unfolding recordThen
-filled-record {A} ws at fault next h = filled-if (lacks (amountsIn (word ws at)) ws at) Filled.bads (go fault)
-  where
-    go : (f : ℕ) → Filled (sound f at (next (at + suc (amountsIn (word ws at)))))
-    go zero = h (at + suc (amountsIn (word ws at)))
-    go (suc f) = Filled.bads
-
-item-filled : (ws : List ℕ) → Filled (itemOf ws)
-unfolding itemOf assetTurn derivativeSetTurn financingSetTurn offBalanceTurn
-item-filled ws =
-    filled-if (eqb (kindOf (word ws 0)) 2) (filled-record ws 0 _ _ (λ n. Filled.somes))
-    (filled-if (eqb (kindOf (word ws 0)) 4) (filled-record ws 0 _ _ (λ n. Filled.somes))
-    (filled-if (eqb (kindOf (word ws 0)) 8) (filled-record ws 0 _ _ (λ n. Filled.somes))
-    (filled-if (eqb (kindOf (word ws 0)) 10) (filled-record ws 0 _ _ (λ n. Filled.somes))
-    Filled.bads)))
-
--- ---- at a place of the book
-
--- `&book[at..]` is what stands from there on
-pub from-is : (ws : List ℕ) (at : ℕ) → take (length ws - at) (drop at ws) ≡ drop at ws
+-- it is what stands from there on
+pub from-is : (ws : List ℕ) (at : ℕ) → partAt ws at ≡ drop at ws
 from-is ws at = take-all (length ws - at) (drop at ws) (omega (arith, length-drop at ws))
 
-module _ (bands : Bands) (s : Sums) (ws : List ℕ) (at : ℕ) where
-  pub item-beyond : length ws ≤ at → Halt 14 (length ws) ≡ itemAnswer bands s (itemTurn ws at)
+-- a record of some kind that stands where an item is due
+pub record Met (ws : List ℕ) (s : Sums) (at k : ℕ) : Type 0 where
+  pub fair : Fair ws s at
+  pub here : at < length ws
+  pub kind : kindOf (word ws at) ≡ k
+
+pub met : {ws : List ℕ} {s : Sums} {at : ℕ} (k : ℕ) → Fair ws s at → stands k ws at ≡ true → Met ws s at k
+met {ws = ws} {at = at} k f e = let h = stands-is k ws at e in record { fair = f; here = h .0; kind = h .1 }
+
+module _ {ws : List ℕ} {s : Sums} {at k : ℕ} (m : Met ws s at k) where
+  pub part-of : Part (partAt ws at)
+  part-of =
+      let n : length (partAt ws at) ≡ length ws - at = ap length (from-is ws at) ∙ length-drop at ws in
+      record { some-word = omega (arith, n, m .here); short = omega (arith, n, m .fair .short) }
+
+  pub kind-here : kindOf (word (drop at ws) 0) ≡ k
+  kind-here = ap kindOf (head-word ws at) ∙ m .kind
+
+  pub kind-of : kindOf (word (partAt ws at) 0) ≡ k
+  kind-of = ap (λ (p : List ℕ). kindOf (word p 0)) (from-is ws at) ∙ kind-here
+
+  pub turn-here : (k ≡ 15 → ⊥) → itemTurn ws at ≡ placed at (itemOf (drop at ws))
   unfolding itemTurn
-  item-beyond h = simp (le-leb _ _ h)
+  turn-here ke = simp (lt-leb _ _ (m .here), ne-eqb (kindOf (word ws at)) 15 (λ z. ke (sym (m .kind) ∙ z)))
 
-  module _ (h : at < length ws) (k : ℕ) (kq : k ≡ kindOf (word ws at)) where
-    module _ (ke : k ≡ 15) (p : ℕ) (pq : p ≡ payloadOf (word ws at)) where
-      pub end-miscounted : (p ≡ at → ⊥) → Halt 14 at ≡ itemAnswer bands s (itemTurn ws at)
-      unfolding itemTurn endFault cause
-      end-miscounted n = simp (lt-leb _ _ h, ← kq, ke, ← pq, ne-eqb _ _ n)
+-- ---- an item by its kind
 
-      pub end-followed : p ≡ at → (length ws ≡ at + 1 → ⊥) → Halt 14 at ≡ itemAnswer bands s (itemTurn ws at)
-      unfolding itemTurn endFault cause
-      end-followed e n = simp (lt-leb _ _ h, ← kq, ke, ← pq, eq-eqb _ _ e, ne-eqb (length ws) (suc at) (λ z. n (omega arith)))
+module _ (ws : List ℕ) where
+  pub of-kind-2 : kindOf (word ws 0) ≡ 2 → itemOf ws ≡ assetTurn ws
+  unfolding itemOf
+  of-kind-2 e = simp e
 
-      pub end-good : p ≡ at → length ws ≡ at + 1 → End ≡ itemAnswer bands s (itemTurn ws at)
-      unfolding itemTurn endFault cause
-      end-good e l = simp (lt-leb _ _ h, ← kq, ke, ← pq, eq-eqb _ _ e, eq-eqb (length ws) (suc at) (omega arith))
+  pub of-kind-4 : kindOf (word ws 0) ≡ 4 → itemOf ws ≡ derivativeSetTurn ws
+  unfolding itemOf
+  of-kind-4 e = simp e
 
-    module _ (ke : k ≡ 15 → ⊥) (r : ItemStep) (q : r ≡ itemStep bands s (itemOf (take (length ws - at) (drop at ws)))) where
-      is-item : itemTurn ws at ≡ placed at (itemOf (drop at ws))
-      unfolding itemTurn
-      is-item = simp (lt-leb _ _ h, ne-eqb _ _ (λ z. ke (kq ∙ z)))
+  pub of-kind-8 : kindOf (word ws 0) ≡ 8 → itemOf ws ≡ financingSetTurn ws
+  unfolding itemOf
+  of-kind-8 e = simp e
 
-      step : r ≡ itemStep bands s (itemOf (drop at ws))
-      step = rw from-is at q
+  pub of-kind-10 : kindOf (word ws 0) ≡ 10 → itemOf ws ≡ offBalanceTurn ws
+  unfolding itemOf
+  of-kind-10 e = simp e
 
-      more-of : (t : Turn Item) → Filled t → (sums : Sums) (next : ℕ) → itemStep bands s t ≡ Next sums next → More sums (at + next) ≡ itemAnswer bands s (placed at t)
-      more-of t Filled.bads sums next e = let z : _≡_ {A = ℕ} 0 1 = cc in absurd (omega arith)
-      more-of t (Filled.somes {a = i} {number = zero} {place = p}) sums next e =
-          let a : plusItem bands s i ≡ sums = cc in
-          let b : p ≡ next = cc in
-          rw (a, b)
-      more-of t (Filled.somes {number = suc n}) sums next e = let z : _≡_ {A = ℕ} 0 1 = cc in absurd (omega arith)
+  pub of-no-kind : (k : ℕ) → k ≡ kindOf (word ws 0) → (k ≡ 2 → ⊥) → (k ≡ 4 → ⊥) → (k ≡ 8 → ⊥) → (k ≡ 10 → ⊥) → itemOf ws ≡ bad 5 0
+  unfolding itemOf
+  of-no-kind k q a b c d = simp (← q, ne-eqb _ _ a, ne-eqb _ _ b, ne-eqb _ _ c, ne-eqb _ _ d)
 
-      halt-of : (t : Turn Item) → Filled t → (number place : ℕ) → itemStep bands s t ≡ Stop number place → Halt number (at + place) ≡ itemAnswer bands s (placed at t)
-      halt-of t (Filled.bads {number = n} {place = p}) number place e =
-          let a : suc n ≡ number = cc in
-          let b : p ≡ place = cc in
-          rw (a, b)
-      halt-of t (Filled.somes {number = zero}) number place e = let z : _≡_ {A = ℕ} 0 1 = cc in absurd (omega arith)
-      halt-of t (Filled.somes {number = suc n} {place = p}) number place e =
-          let a : suc n ≡ number = cc in
-          let b : p ≡ place = cc in
-          rw (a, b)
+-- ---- a record by its cause: 6, or what its words come to
 
-      pub item-more : (sums : Sums) (next : ℕ) → r ≡ Next sums next → More sums (at + next) ≡ itemAnswer bands s (itemTurn ws at)
-      item-more sums next e = more-of (itemOf (drop at ws)) (item-filled (drop at ws)) sums next (sym step ∙ e) ∙ sym (ap (itemAnswer bands s) is-item)
+module _ {A : Type 0} (ws : List ℕ) (kind : ℕ) (k : kindOf (word ws 0) ≡ kind) (f : ℕ) (next : ℕ → Turn A) where
+  abbrev causeOf : ℕ
+  causeOf = cond (lacks (amountsOfKind kind) ws 0) 6 f
 
-      pub item-halt : (number place : ℕ) → r ≡ Stop number place → Halt number (at + place) ≡ itemAnswer bands s (itemTurn ws at)
-      item-halt number place e = halt-of (itemOf (drop at ws)) (item-filled (drop at ws)) number place (sym step ∙ e) ∙ sym (ap (itemAnswer bands s) is-item)
+  pub record-faulty : (causeOf ≡ 0 → ⊥) → recordThen ws 0 f next ≡ bad causeOf 0
+  record-faulty n = go (lacks (amountsOfKind kind) ws 0) refl n
+    where
+      go : (b : Bool) → lacks (amountsOfKind kind) ws 0 ≡ b → (cond b 6 f ≡ 0 → ⊥) → recordThen ws 0 f next ≡ bad (cond b 6 f) 0
+      go true q n = turn-lacks ws 0 kind k f next q
+      go false q n = turn-fault ws 0 kind k f next q n
 
-      -- the places stand in the book
-      next-of : (t : Turn Item) → FineTurn (length ws) perWord (placedWeight bands) at (placed at t) → (sums : Sums) (next : ℕ) → Filled t → itemStep bands s t ≡ Next sums next → at + next ≤ length ws
-      next-of t f sums next Filled.bads e = let z : _≡_ {A = ℕ} 0 1 = cc in absurd (omega arith)
-      next-of t f sums next (Filled.somes {number = zero} {place = p}) e = let b : p ≡ next = cc in rw (← b) (f .1)
-      next-of t f sums next (Filled.somes {number = suc n}) e = let z : _≡_ {A = ℕ} 0 1 = cc in absurd (omega arith)
+  pub record-good : causeOf ≡ 0 → (lacks (amountsOfKind kind) ws 0 ≡ false) × (recordThen ws 0 f next ≡ next (0 + suc (amountsOfKind kind)))
+  record-good e = go (lacks (amountsOfKind kind) ws 0) refl e
+    where
+      go : (b : Bool) → lacks (amountsOfKind kind) ws 0 ≡ b → cond b 6 f ≡ 0 → (lacks (amountsOfKind kind) ws 0 ≡ false) × (recordThen ws 0 f next ≡ next (0 + suc (amountsOfKind kind)))
+      go true q z = let z : ⊥ = omega arith in absurd z
+      go false q z = (q, turn-on ws 0 kind k f next q z)
 
-      place-of : (t : Turn Item) → FineTurn (length ws) perWord (placedWeight bands) at (placed at t) → (number place : ℕ) → Filled t → itemStep bands s t ≡ Stop number place → at + place ≤ length ws
-      place-of t f number place (Filled.bads {place = p}) e = let b : p ≡ place = cc in rw (← b) (f .1)
-      place-of t f number place (Filled.somes {number = zero}) e = let z : _≡_ {A = ℕ} 0 1 = cc in absurd (omega arith)
-      place-of t f number place (Filled.somes {number = suc n} {place = p}) e = let b : p ≡ place = cc in rw (← b) (f .1)
+-- a fault at the head of an item
+pub halted : (bands : Bands) {ws : List ℕ} {s : Sums} {at k : ℕ} → Met ws s at k → (k ≡ 15 → ⊥) → (number : ℕ) → (number ≡ 0 → ⊥) → itemOf (drop at ws) ≡ bad number 0
+    → fromItem bands ws s at ≡ endsAt (Fault number at)
+halted bands {ws} {s} {at} m ke number n e =
+    ahead-bad bands ws s at (m .fair .within) number (at + 0) n (turn-here m ke ∙ ap (placed at) e) ∙ ap (λ (p : ℕ). endsAt (Fault number p)) (add-zero at)
 
-      fine-here : FineTurn (length ws) perWord (placedWeight bands) at (placed at (itemOf (drop at ws)))
-      fine-here = rw is-item at (fine-item-turn bands ws at (omega arith))
+-- ---- items without draws
 
-      pub next-within : (sums : Sums) (next : ℕ) → r ≡ Next sums next → at + next ≤ length ws
-      next-within sums next e = next-of (itemOf (drop at ws)) fine-here sums next (item-filled (drop at ws)) (sym step ∙ e)
+pub data Plain : Turn Item → Type 0 where
+  bads : {number place : ℕ} → Plain (bad (suc number) place)
+  somes : {i : Item} {number place : ℕ} → ((begin : ℕ) → drawsIn begin i ≡ []) → Plain (some i number place)
 
-      pub place-within : (number place : ℕ) → r ≡ Stop number place → at + place ≤ length ws
-      place-within number place e = place-of (itemOf (drop at ws)) fine-here number place (item-filled (drop at ws)) (sym step ∙ e)
-
--- ---- a turn of the book is over, or has an item, or a fault whose number is not 0
-
-pub data Proper : Turn Placed → Type 0 where
-  overs : Proper over
-  bads : {number place : ℕ} → Proper (bad (suc number) place)
-  somes : {p : Placed} {number place : ℕ} → Proper (some p number place)
-
-proper-if : (b : Bool) {t u : Turn Placed} → Proper t → Proper u → Proper (cond b t u)
-proper-if true g h = g
-proper-if false g h = h
-
-proper-placed : (at : ℕ) {t : Turn Item} → Filled t → Proper (placed at t)
-proper-placed at Filled.bads = Proper.bads
-proper-placed at (Filled.somes {number = n}) = Proper.somes
-
-pub proper-turn : (ws : List ℕ) (at : ℕ) → Proper (itemTurn ws at)
-unfolding itemTurn
-proper-turn ws at = proper-if (leb (length ws) at) Proper.bads (proper-if (eqb (kindOf (word ws at)) 15) (ends (endFault ws at)) (proper-placed at (item-filled (drop at ws))))
+plain-record : (ws : List ℕ) (at fault : ℕ) (next : ℕ → Turn Item) → ((n : ℕ) → Plain (next n)) → Plain (recordThen ws at fault next)
+unfolding recordThen
+plain-record ws at fault next h = if (lacks (amountsIn (word ws at)) ws at) fault
   where
-    ends : (f : ℕ) → Proper (sound f at over)
-    ends zero = Proper.overs
-    ends (suc f) = Proper.bads
+    if : (b : Bool) (f : ℕ) → Plain (cond b (bad 6 at) (sound f at (next (at + suc (amountsIn (word ws at))))))
+    if true f = bads
+    if false zero = h (at + suc (amountsIn (word ws at)))
+    if false (suc f) = bads
+
+pub plain-asset : (ws : List ℕ) → Plain (assetTurn ws)
+unfolding assetTurn
+plain-asset ws = plain-record ws 0 _ _ (λ n. somes (λ b. refl))
+
+pub plain-financing : (ws : List ℕ) → Plain (financingSetTurn ws)
+unfolding financingSetTurn
+plain-financing ws = plain-record ws 0 _ _ (λ n. somes (λ b. refl))
+
+pub plain-off-balance : (ws : List ℕ) → Plain (offBalanceTurn ws)
+unfolding offBalanceTurn
+plain-off-balance ws = plain-record ws 0 _ _ (λ n. somes (λ b. refl))
+
+-- what a call answered that reads one: the item is in the sums, or it is faulty
+module _ (bands : Bands) {ws : List ℕ} {s : Sums} {at k : ℕ} (m : Met ws s at k) (ke : k ≡ 15 → ⊥) (turn : List ℕ → Turn Item) (plain : Plain (turn (drop at ws))) (is : itemOf (drop at ws) ≡ turn (drop at ws))
+    (r : ItemStep) (q : r ≡ itemStep bands s (turn (partAt ws at))) where
+  here : itemTurn ws at ≡ placed at (turn (drop at ws))
+  here = turn-here m ke ∙ ap (placed at) is
+
+  step : r ≡ itemStep bands s (turn (drop at ws))
+  step = q ∙ ap (λ (p : List ℕ). itemStep bands s (turn p)) (from-is ws at)
+
+  fine : FineTurn (length ws) perWord (placedWeight bands) at (placed at (turn (drop at ws)))
+  fine = rw here at (fine-item-turn bands ws at (m .fair .within))
+
+  next-of : (t : Turn Item) → Plain t → itemTurn ws at ≡ placed at t → (sums : Sums) (next : ℕ) → itemStep bands s t ≡ Next sums next → Onward bands ws s at sums (at + next)
+  next-of t bads h sums next e = let z : _≡_ {A = ℕ} 0 1 = cc in absurd (omega arith)
+  next-of t (somes {i} {number = zero} {place} d) h sums next e =
+      let a : plusItem bands s i ≡ sums = cc in
+      let b : place ≡ next = cc in
+      rw (← a, ← b) (onward bands ws s at (m .fair) _ (at + place) h (d at))
+  next-of t (somes {number = suc n} d) h sums next e = let z : _≡_ {A = ℕ} 0 1 = cc in absurd (omega arith)
+
+  pub item-next : (sums : Sums) (next : ℕ) → r ≡ Next sums next → Onward bands ws s at sums (at + next)
+  item-next sums next e = next-of (turn (drop at ws)) plain here sums next (sym step ∙ e)
+
+  stop-of : (t : Turn Item) → Plain t → itemTurn ws at ≡ placed at t → FineTurn (length ws) perWord (placedWeight bands) at (placed at t) → (number place : ℕ) → itemStep bands s t ≡ Stop number place
+      → (at + place ≤ length ws) × (fromItem bands ws s at ≡ endsAt (Fault number (at + place)))
+  stop-of t (bads {number = n} {place = p}) h f number place e =
+      let a : suc n ≡ number = cc in
+      let b : p ≡ place = cc in
+      rw (← a, ← b) (f .1, ahead-bad bands ws s at (m .fair .within) (suc n) (at + p) (λ z. omega arith) h)
+  stop-of t (somes {number = zero} d) h f number place e = let z : _≡_ {A = ℕ} 0 1 = cc in absurd (omega arith)
+  stop-of t (somes {i} {number = suc n} {place = p} d) h f number place e =
+      let a : suc n ≡ number = cc in
+      let b : p ≡ place = cc in
+      rw (← a, ← b) (f .1, rw (d at) at (ahead-broken bands ws s at (m .fair .within) _ n (at + p) h))
+
+  pub item-stop : (number place : ℕ) → r ≡ Stop number place → (at + place ≤ length ws) × (fromItem bands ws s at ≡ endsAt (Fault number (at + place)))
+  item-stop number place e = stop-of (turn (drop at ws)) plain here fine number place (sym step ∙ e)

@@ -1,5 +1,9 @@
 pub mod ProtectionLaws
+pub mod AheadLaws
 pub mod ItemLaws
-pub mod ItemLoop
-pub mod BookLaws
 pub mod RunLaws
+pub mod HeadLaws
+pub mod SetBounds
+pub mod SetHead
+pub mod CursorLaws
+pub mod SetSteps

@@ -1,69 +1,68 @@
--- A run of items of one kind: what the test for that kind tells, and one item more. Once for every kind. Assumes nothing.
-use Prim.Native.Nat.{ℕ, _+_, _-_, _≤_, _<_}
+-- A run of items of one kind, from a good one on: one item more, and where it ends. Assumes nothing.
+use Prim.Native.Nat.{ℕ, _≤_, _<_}
 use mathlib.Core.Path.{_≡_, refl, sym, _∙_, ap}
-use mathlib.Core.Bool.{Bool, true}
+use mathlib.Core.Bool.{Bool, true, false}
 use mathlib.Core.List.{List}
 use native.Mathlib.Omega.{arith}
-use lib.ListN.{length, take, drop, length-drop}
+use borrow.Author.Tests.{leb-true, leb-false}
+use lib.Dec.{leb}
+use lib.ListN.{drop}
 use Rattle.rules.specs.declared.Bands.{Bands}
 use Rattle.rules.specs.declared.Sums.{Sums}
 use Rattle.rules.specs.Word.{word, kindOf}
-use Rattle.rules.specs.Read.{stands, itemOf, itemTurn}
-use Rattle.theorems.proofs.Records.{stands-is, head-word}
+use Rattle.rules.specs.Run.{some}
+use Rattle.rules.specs.Read.{stands, assetAt, assetTurn, offBalanceAt, offBalanceTurn}
+use Rattle.rules.specs.Book.{Item, asset, offBalance}
 use Rattle.records.specs.declared.ItemStep.{ItemStep}
-use Rattle.records.specs.declared.ItemStep.the-variants.{Next}
-use Rattle.records.specs.Step.{itemStep, Part, Roomy}
-use Rattle.reading.specs.declared.items.ItemAnswer.the-variants.{More}
-use Rattle.reading.specs.Steps.{itemAnswer, Fair, Leads}
-use Rattle.reading.proofs.ItemLaws.{from-is, item-more, next-within}
-use Rattle.reading.proofs.ItemLoop.{roomy-there, further}
+use Rattle.records.specs.declared.ItemStep.the-variants.{Stop}
+use Rattle.records.specs.Step.{itemStep, assetCause, offBalanceCause}
+use Rattle.reading.specs.Steps.{Fair}
+use Rattle.reading.specs.Ahead.{fromItem, Onward}
+use Rattle.reading.proofs.ItemLaws.{partAt, from-is, record-good}
 
--- on the way along good items an item of this kind is met
-pub record Met (bands : Bands) (ws : List ℕ) (s : Sums) (from : ℕ) (t : Sums) (at k : ℕ) : Type 0 where
-  pub fair : Fair ws s from
-  pub leads : Leads bands ws s from t at
-  pub here : at < length ws
-  pub kind : kindOf (word ws at) ≡ k
+-- from a place and its sums on, so far: what lies ahead is the same
+pub record Passing (bands : Bands) (ws : List ℕ) (s : Sums) (from : ℕ) (t : Sums) (at : ℕ) : Type 0 where
+  pub same : fromItem bands ws s from ≡ fromItem bands ws t at
+  pub fair : Fair ws t at
+  pub reached : from ≤ at
 
-pub met : (bands : Bands) (ws : List ℕ) (s : Sums) (from : ℕ) → Fair ws s from → {t : Sums} {at : ℕ} → Leads bands ws s from t at
-    → (k : ℕ) (b : Bool) → b ≡ stands k ws at → b ≡ true → Met bands ws s from t at k
-met bands ws s from f {at = at} l k b q e = let h = stands-is k ws at (sym q ∙ e) in record { fair = f; leads = l; here = h .0; kind = h .1 }
+pub passing-none : {bands : Bands} {ws : List ℕ} {s : Sums} {from : ℕ} → Fair ws s from → Passing bands ws s from s from
+passing-none f = record { same = refl; fair = f; reached = omega arith }
 
-pub record OneMore (bands : Bands) (ws : List ℕ) (s : Sums) (from at : ℕ) (sums : Sums) (next : ℕ) : Type 0 where
-  pub leads : Leads bands ws s from sums next
-  pub within : next ≤ length ws
-  pub further : at < next
+module _ {bands : Bands} {ws : List ℕ} {s : Sums} {from : ℕ} {t : Sums} {at : ℕ} (p : Passing bands ws s from t at) where
+  pub passing-more : {sums : Sums} {next : ℕ} → Onward bands ws t at sums next → Passing bands ws s from sums next
+  passing-more o = record { same = p .same ∙ o .same; fair = o .fair; reached = omega (arith, p .reached, o .further) }
 
-module _ {bands : Bands} {ws : List ℕ} {s : Sums} {from : ℕ} {t : Sums} {at k : ℕ} (m : Met bands ws s from t at k) where
-  -- the words from the item on, as the code hands them on
-  abbrev part : List ℕ
-  part = take (length ws - at) (drop at ws)
+  -- a run that has left its first place
+  pub passed : (at ≡ from → ⊥) → Onward bands ws s from t at
+  passed n = record { same = p .same; fair = p .fair; further = go (leb at from) refl }
+    where
+      go : (b : Bool) → leb at from ≡ b → from < at
+      go true e = absurd (n (omega (arith, leb-true at from e, p .reached)))
+      go false e = leb-false at from e
 
-  pub part-of : Part part
-  part-of =
-      let n : length part ≡ length ws - at = ap length (from-is ws at) ∙ length-drop at ws in
-      record { some-word = omega (arith, n, m .here); short = omega (arith, n, m .fair .short) }
+-- ---- it has left its first place
 
-  pub roomy-met : Roomy t
-  roomy-met = roomy-there bands ws s from (m .fair) (m .leads)
+module _ (ws : List ℕ) (at from : ℕ) where
+  -- where no item of the kind stands
+  pub left-standing : (k : ℕ) (b : Bool) → b ≡ stands k ws at → b ≡ false → stands k ws from ≡ true → at ≡ from → ⊥
+  left-standing k b q e h z = let c : _≡_ {A = Bool} true false = sym h ∙ ap (stands k ws) (sym z) ∙ sym q ∙ e in let n : _≡_ {A = ℕ} 0 1 = cc in omega arith
 
-  pub kind-of : kindOf (word part 0) ≡ k
-  kind-of =
-      ap (λ (p : List ℕ). kindOf (word p 0)) (from-is ws at)
-      ∙ ap kindOf (head-word ws at)
-      ∙ m .kind
+  -- where an item is faulty
+  module _ (bands : Bands) (t : Sums) (number place : ℕ) (r : ItemStep) (e : r ≡ Stop number place) where
+    good-step : (i : Item) (next : ℕ) → r ≡ itemStep bands t (some i 0 next) → ⊥
+    good-step i next q = let n : _≡_ {A = ℕ} 0 1 = cc in omega arith
 
-  module _ (ke : k ≡ 15 → ⊥) (r : ItemStep) (q : r ≡ itemStep bands t (itemOf part)) (sums : Sums) (next : ℕ) (e : r ≡ Next sums next) where
-    no-end : kindOf (word ws at) ≡ 15 → ⊥
-    no-end z = ke (sym (m .kind) ∙ z)
+    pub left-asset : kindOf (word (partAt ws at) 0) ≡ 2 → r ≡ itemStep bands t (assetTurn (partAt ws at)) → assetCause (drop from ws) ≡ 0 → at ≡ from → ⊥
+    unfolding assetCause assetTurn
+    left-asset k q c z =
+        let i : Item = asset (assetAt (partAt ws at)) in
+        let g = record-good (partAt ws at) 2 k _ (some i 0) (ap assetCause (from-is ws at ∙ ap (λ (x : ℕ). drop x ws) z) ∙ c) in
+        good-step i 4 (q ∙ ap (itemStep bands t) (g .1))
 
-    answer : itemAnswer bands t (itemTurn ws at) ≡ More sums (at + next)
-    answer = sym (item-more bands t ws at (m .here) (kindOf (word ws at)) refl no-end r q sums next e)
-
-    -- the item in the sums, and the place behind it
-    pub one-more : OneMore bands ws s from at sums (at + next)
-    one-more = record {
-      leads = Leads.more (m .leads) answer;
-      within = next-within bands t ws at (m .here) (kindOf (word ws at)) refl no-end r q sums next e;
-      further = further bands ws s from (m .fair) (m .leads) sums (at + next) answer;
-    }
+    pub left-off-balance : kindOf (word (partAt ws at) 0) ≡ 10 → r ≡ itemStep bands t (offBalanceTurn (partAt ws at)) → offBalanceCause (drop from ws) ≡ 0 → at ≡ from → ⊥
+    unfolding offBalanceCause offBalanceTurn
+    left-off-balance k q c z =
+        let i : Item = offBalance (offBalanceAt (partAt ws at)) in
+        let g = record-good (partAt ws at) 10 k _ (some i 0) (ap offBalanceCause (from-is ws at ∙ ap (λ (x : ℕ). drop x ws) z) ∙ c) in
+        good-step i 2 (q ∙ ap (itemStep bands t) (g .1))

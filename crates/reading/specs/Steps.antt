@@ -1,6 +1,5 @@
 -- What the reading answers at each of its levels. Assumes nothing.
 use Prim.Native.Nat.{ℕ, zero, suc, _+_, _*_, _^_, _≤_}
-use mathlib.Core.Path.{_≡_}
 use mathlib.Core.Bool.{cond}
 use mathlib.Core.List.{List}
 use lib.Dec.{eqb}
@@ -9,11 +8,7 @@ use Rattle.rules.specs.declared.Bands.{Bands}
 use Rattle.rules.specs.declared.Sums.{Sums}
 use Rattle.rules.specs.Book.{Protection, Placed}
 use Rattle.rules.specs.Run.{Turn, over, bad, some, Run}
-use Rattle.rules.specs.Read.{itemTurn}
 use Rattle.rules.specs.Rows.{sumsOf}
-use Rattle.records.specs.Step.{plusItem}
-use Rattle.reading.specs.declared.items.ItemAnswer.{ItemAnswer}
-use Rattle.reading.specs.declared.items.ItemAnswer.the-variants.{More, End, Halt}
 use Rattle.reading.specs.declared.protections.Protections.{Protections}
 use Rattle.reading.specs.declared.protections.Protections.the-variants.{Upto, Wrong}
 use Rattle.reading.specs.declared.Reading.{Reading}
@@ -32,12 +27,6 @@ placeOf r = cond (eqb (r .number) 0) (Upto (r .place)) (Wrong (r .number) (r .pl
 
 -- ---- items
 
-abbrev pub itemAnswer : Bands → Sums → Turn Placed → ItemAnswer
-itemAnswer bands s over = End
-itemAnswer bands s (bad number place) = Halt number place
-itemAnswer bands s (some p zero next) = More (plusItem bands s (p .item)) next
-itemAnswer bands s (some p (suc number) place) = Halt (suc number) place
-
 -- all sums together
 unfoldable pub allSums : Sums → ℕ
 allSums s =
@@ -48,11 +37,6 @@ pub record Fair (ws : List ℕ) (s : Sums) (at : ℕ) : Type 0 where
   pub within : at ≤ length ws
   pub short : length ws ≤ 2 ^ 20
   pub small : allSums s ≤ 2 ^ 41 * at
-
--- from a place and its sums, items without a fault lead to another place and its sums
-pub data Leads (bands : Bands) (ws : List ℕ) (s : Sums) (from : ℕ) : Sums → ℕ → Type 0 where
-  none : Leads bands ws s from s from
-  more : {t sums : Sums} {at next : ℕ} → Leads bands ws s from t at → itemAnswer bands t (itemTurn ws at) ≡ More sums next → Leads bands ws s from sums next
 
 -- ---- the book
 

@@ -1,12 +1,13 @@
 // Reading: one pass over the words of a book, which finds the first record that is faulty by itself (numbers 5 to 10 and 14) and gathers
-// the sums of the template. It touches no buffer.
+// the sums of the template. It stops at every cover, so that whoever holds the register can draw it; it touches no buffer itself.
 use rules::Sums;
 
+pub mod cursor;
 pub mod head;
 mod items;
 mod protections;
 mod runs;
-pub mod whole;
+mod steps;
 
 // The sums of a book whose records are all good, and the place of its end word; or the number and the place of the first fault.
 pub enum Reading {

@@ -5,8 +5,14 @@ use records::commitments::off_balance;
 use records::presence::standing;
 use rules::Bands;
 use rules::Sums;
+ghost use mathlib.Core.Path.{_≡_};
+ghost use mathlib.Core.Bool.{true};
+ghost use lib.ListN.{drop};
 ghost use denote.Ref.{now};
-ghost use Rattle.reading.specs.Steps.{Fair, Leads};
+ghost use Rattle.rules.specs.Read.{stands};
+ghost use Rattle.records.specs.Step.{assetCause, offBalanceCause};
+ghost use Rattle.reading.specs.Steps.{Fair};
+ghost use Rattle.reading.specs.Ahead.{Onward};
 
 // The sums and the place behind some items.
 pub struct Passed {
@@ -14,10 +20,10 @@ pub struct Passed {
     pub next: usize,
 }
 
-// Up to the first word that begins no asset, or an asset with a fault.
+// From a good asset up to the first word that begins none, or one with a fault.
 pub fn assets(book: &[u32], from: usize, s: Sums, bands: Bands) -> Passed
-    requires { ⌜ Fair (now book) s from ⌝ }
-    ensures { λ r. ⌜ Leads bands (now (book .entry)) s from (r .sums) (r .next) ⌝ }
+    requires { ⌜ Fair (now book) s from × ((stands 2 (now book) from ≡ true) × (assetCause (drop from (now book)) ≡ 0)) ⌝ }
+    ensures { λ r. ⌜ Onward bands (now (book .entry)) s from (r .sums) (r .next) ⌝ }
 {
     let mut t = s;
     let mut at = from;
@@ -38,8 +44,8 @@ pub fn assets(book: &[u32], from: usize, s: Sums, bands: Bands) -> Passed
 
 // The same of off-balance items.
 pub fn off_balance_items(book: &[u32], from: usize, s: Sums, bands: Bands) -> Passed
-    requires { ⌜ Fair (now book) s from ⌝ }
-    ensures { λ r. ⌜ Leads bands (now (book .entry)) s from (r .sums) (r .next) ⌝ }
+    requires { ⌜ Fair (now book) s from × ((stands 10 (now book) from ≡ true) × (offBalanceCause (drop from (now book)) ≡ 0)) ⌝ }
+    ensures { λ r. ⌜ Onward bands (now (book .entry)) s from (r .sums) (r .next) ⌝ }
 {
     let mut t = s;
     let mut place = from;

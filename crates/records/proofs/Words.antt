@@ -2,7 +2,7 @@
 -- Assumes nothing.
 use Prim.Native.Nat.{ℕ, zero, suc, _+_, _-_, _≤_, _<_}
 use mathlib.Core.Path.{_≡_, refl, sym, _∙_}
-use mathlib.Core.Bool.{Bool, true, false, not, _||_, or-assoc, or-false}
+use mathlib.Core.Bool.{Bool, true, false, not, _||_, cond, or-assoc, or-false}
 use mathlib.Core.List.{List}
 use native.Mathlib.Omega.{arith}
 use native.Mathlib.Numerals.{sub-one}
@@ -66,3 +66,11 @@ module _ {A : Type 0} (ws : List ℕ) (at kind : ℕ) (k : kindOf (word ws at) �
   pub turn-on : lacks (amountsOfKind kind) ws at ≡ false → f ≡ 0 → recordThen ws at f next ≡ next (at + suc (amountsOfKind kind))
   unfolding recordThen
   turn-on e h = simp (k, e, h)
+
+-- the cause of a record: 6, or what its words come to
+module _ (n : ℕ) (ws : List ℕ) (at f : ℕ) (l : Bool) (lq : l ≡ lacks n ws at) where
+  pub cause-lacking : l ≡ true → _≡_ {A = ℕ} 6 (cond (lacks n ws at) 6 f)
+  cause-lacking e = simp (← lq, e)
+
+  pub cause-there : l ≡ false → (r : ℕ) → r ≡ f → r ≡ cond (lacks n ws at) 6 f
+  cause-there e r q = q ∙ simp (← lq, e)

@@ -5,8 +5,10 @@ use mathlib.Core.List.{List}
 use lib.ListN.{length}
 use Rattle.rules.specs.declared.Bands.{Bands}
 use Rattle.rules.specs.declared.Sums.{Sums}
-use Rattle.rules.specs.Word.{fieldOf, bitOf, sizeOf}
+use Rattle.rules.specs.Word.{word, fieldOf, bitOf, sizeOf}
+use Rattle.rules.specs.Faults.{assetFault, offBalanceFault}
 use Rattle.rules.specs.Factors.{conversionOf}
+use Rattle.rules.specs.Read.{lacks}
 use Rattle.rules.specs.Book.{Item}
 use Rattle.rules.specs.Run.{Turn, over, bad, some}
 use Rattle.rules.specs.Rows.{row1, row2, row4, row5, row6, row7, row8, row9, row10, row12, row13, row14, row15, row17, row18}
@@ -72,6 +74,13 @@ plusOffBalance s w notional = record {
   committed = s .committed + 1000 * sizeOf notional;
   unconverted = s .unconverted + (1000 - conversionOf (fieldOf 0 4 w) (fieldOf 4 4 w)) * sizeOf notional;
 }
+
+-- the causes 6 to 9 of an asset and of an off-balance item
+unfoldable pub assetCause : List ℕ → ℕ
+assetCause ws = cond (lacks 3 ws 0) 6 (assetFault (word ws 0) (word ws 1) (word ws 2) (word ws 3))
+
+unfoldable pub offBalanceCause : List ℕ → ℕ
+offBalanceCause ws = cond (lacks 1 ws 0) 6 (offBalanceFault (word ws 0) (word ws 1))
 
 -- an item's turn is never over
 abbrev pub itemStep : Bands → Sums → Turn Item → ItemStep

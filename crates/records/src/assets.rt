@@ -15,7 +15,7 @@ ghost use denote.Ref.{now};
 ghost use Rattle.rules.specs.Word.{kindOf, sizeOf, word};
 ghost use Rattle.rules.specs.Faults.{assetFault};
 ghost use Rattle.rules.specs.Read.{assetTurn};
-ghost use Rattle.records.specs.Step.{itemStep, Part, Roomy, plusAsset};
+ghost use Rattle.records.specs.Step.{assetCause, itemStep, Part, Roomy, plusAsset};
 
 // The causes 7 to 9 of an asset with these words.
 fn asset_fault(w: u32, carrying: u32, provision: u32, deducted: u32) -> u32
@@ -50,6 +50,17 @@ fn with_asset(mut s: Sums, w: u32, carrying: u32, provision: u32, deducted: u32)
     s.assets = s.assets + chosen(fiduciary, 0, carried);
     s.deducted = s.deducted + chosen(fiduciary, 0, taken_off);
     s
+}
+
+// The number of the cause for which the record is faulty, or 0.
+pub fn asset_cause(part: &[u32]) -> u32
+    requires { ⌜ Part (now part) ⌝ }
+    ensures { λ r. ⌜ r ≡ assetCause (now (part .entry)) ⌝ }
+{
+    if lacking(part, 0, 3) {
+        return 6;
+    }
+    asset_fault(part[0], part[1], part[2], part[3])
 }
 
 pub fn asset(part: &[u32], s: Sums, bands: Bands) -> ItemStep

@@ -13,7 +13,7 @@ ghost use denote.Ref.{now};
 ghost use Rattle.rules.specs.Word.{kindOf, word};
 ghost use Rattle.rules.specs.Faults.{offBalanceFault};
 ghost use Rattle.rules.specs.Read.{offBalanceTurn};
-ghost use Rattle.records.specs.Step.{itemStep, Part, Roomy, plusOffBalance};
+ghost use Rattle.records.specs.Step.{offBalanceCause, itemStep, Part, Roomy, plusOffBalance};
 
 // The causes 7 and 8 of an off-balance item with these words: bits 0-3 its class, bits 4-7 one more than the class of the item
 // committed to.
@@ -45,6 +45,17 @@ fn with_off_balance(mut s: Sums, w: u32, notional: u32) -> Sums
     s.committed += 1000 * amount;
     s.unconverted += ((1000 - figure) as u64) * amount;
     s
+}
+
+// The number of the cause for which the record is faulty, or 0.
+pub fn off_balance_cause(part: &[u32]) -> u32
+    requires { ⌜ Part (now part) ⌝ }
+    ensures { λ r. ⌜ r ≡ offBalanceCause (now (part .entry)) ⌝ }
+{
+    if lacking(part, 0, 1) {
+        return 6;
+    }
+    off_balance_fault(part[0], part[1])
 }
 
 pub fn off_balance(part: &[u32], s: Sums, bands: Bands) -> ItemStep

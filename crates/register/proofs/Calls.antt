@@ -33,26 +33,27 @@ use Rattle.rules.specs.Register.{blank, entryOf, unfitFor}
 use Rattle.rules.proofs.Entry as TE
 use Rattle.rules.proofs.Entry.Laws as TE′
 use Rattle.rules.proofs.Draw as TD
-use Rattle.register.specs.declared.Cursor.{Cursor}
-use Rattle.register.specs.declared.Settlement.{Settlement}
-use Rattle.register.specs.declared.covers.Found.{Found}
+use Rattle.reading.specs.declared.Reading.{Reading}
+use Rattle.reading.specs.declared.cursor.Cursor.{Cursor}
+use Rattle.reading.specs.declared.cursor.Found.{Found}
+use Rattle.reading.specs.Ahead.{ahead, foundAhead, startCursor, Sound, SoundFound}
+use Rattle.reading.proofs.Reading as TR
+use Rattle.reading.proofs.Reading.Laws as TR′
+use Rattle.reading.proofs.cursor.Cursor as TC
+use Rattle.reading.proofs.cursor.Cursor.Laws as TC′
+use Rattle.reading.proofs.cursor.Found as TF
+use Rattle.reading.proofs.cursor.Found.Laws as TF′
+use Rattle.reading.proofs.cursor.start as start′
+use Rattle.reading.proofs.cursor.next_draw as next-draw′
 use Rattle.register.specs.declared.entries.Drawn.{Drawn}
-use Rattle.register.specs.Scan.{protectionPlace, loadedFrom, cursorBehind}
-use Rattle.register.specs.Draws.{nextDraw, drawnDown, faultIn, drawnIn, settling, answerOf, registerOf}
-use Rattle.register.proofs.Cursor as TC
-use Rattle.register.proofs.Cursor.Laws as TC′
-use Rattle.register.proofs.Settlement as TS
-use Rattle.register.proofs.Settlement.Laws as TS′
-use Rattle.register.proofs.covers.Found as TF
-use Rattle.register.proofs.covers.Found.Laws as TF′
+use Rattle.register.specs.Loading.{protectionPlace, loadedFrom}
+use Rattle.register.specs.Draws.{drawnDown, faultIn, drawnIn, readingAfter, leftAfter}
 use Rattle.register.proofs.entries.Drawn as TA
 use Rattle.register.proofs.entries.Drawn.Laws as TA′
-use Rattle.register.proofs.Rows.{Known, told, known, R, mach, IsEntry, mach-draw, IsDraw, mach-drawn, mach-cursor, IsCursor, mach-found, IsFound, mach-settlement, IsSettlement, makes, draw-makes, cursor-makes}
+use Rattle.register.proofs.Rows.{Known, told, known, told-case, known-case, R, mach, IsEntry, mach-draw, IsDraw, mach-drawn, mach-cursor, IsCursor, mach-found, IsFound, mach-reading, IsReading, makes, draw-makes, cursor-makes}
 use Rattle.register.proofs.Relend.{slice, Claim}
 use Rattle.register.proofs.Lent.{mut-own, shr-own, left, left-shared, left-lent, left-both, Call, calls-plain, calls-lent, calls-passed, calls-both}
 use Rattle.register.proofs.book.entry_from as entry-from′
-use Rattle.register.proofs.covers.cursor_behind as cursor-behind′
-use Rattle.register.proofs.covers.next_draw as next-draw′
 use Rattle.register.proofs.entries.drawn_down as drawn-down′
 use Rattle.register.proofs.entries.empty as empty′
 use Rattle.register.proofs.entries.load as load′
@@ -66,8 +67,8 @@ module _ {M : Type 1} (𝓤 : URA M) (H : Heap 𝓤) (A : Atoms 𝓤) (mem : Mem
   abbrev pub EntryFrom : Contract 𝓤
   EntryFrom = tripleOf 𝓤 H A entry-from′.signature (entry-from′.spec 𝓤 H A mem run)
 
-  abbrev pub CursorBehind : Contract 𝓤
-  CursorBehind = tripleOf 𝓤 H A cursor-behind′.signature (cursor-behind′.spec 𝓤 H A mem run)
+  abbrev pub Start : Contract 𝓤
+  Start = tripleOf 𝓤 H A start′.signature (start′.spec 𝓤 H A mem run)
 
   abbrev pub NextDraw : Contract 𝓤
   NextDraw = tripleOf 𝓤 H A next-draw′.signature (next-draw′.spec 𝓤 H A mem run)
@@ -104,13 +105,6 @@ module _ {M : Type 1} (𝓤 : URA M) (H : Heap 𝓤) (A : Atoms 𝓤) (mem : Mem
         qed W [] ∵ nothing ! $ nothing ! $ nothing ! $ owned ! TD.the-row (Is TD.the-row) (draw-makes 𝓤 H A) d _ d-is $ fjoin ! $
         owned ! R (Is R) (makes 𝓤 H A) e _ e-is $ fjoin ! $ move ! (1 ∷ 0 ∷ []) $ join ! $ join ! $ done !
 
-    abbrev pub to-cursor-behind : ℕ → CursorBehind .Ghost
-    to-cursor-behind n = ((tt, tt, tt, (n, tt), (vint w64 n ∷ [], tt)), tt)
-
-    pub cursor-behind-pre : (n : ℕ) → n < 2 ^ 64 → n ≤ 4096 → ent 𝓤 (emp 𝓤) (CursorBehind .pre (to-cursor-behind n))
-    cursor-behind-pre n fits asked =
-        qed W [] ∵ says ! asked $ nothing ! $ nothing ! $ owned ! usize (Is usize) (uint-makes 𝓤 H A W w64) n _ (refl, fits) $ fjoin ! $ move ! (1 ∷ 0 ∷ []) $ join ! $ done !
-
     -- over the book
     module _ (κ : Lft) (p : Share) (b o : ℕ) (γ : GName) (m : ℕ) (ws : List ℕ) where
       abbrev Given-book : SProp 𝓤
@@ -124,13 +118,13 @@ module _ {M : Type 1} (𝓤 : URA M) (H : Heap 𝓤) (A : Atoms 𝓤) (mem : Mem
           qed W (‵ (flft κ p) ∷ ‵ (shr-own u32 (named 0) κ γ b o m ws) ∷ []) ∵ says ! asked $ nothing ! $ move ! (1 ∷ 0 ∷ []) $ join ! $ frame ! $
           nothing ! $ owned ! usize (Is usize) (uint-makes 𝓤 H A W w64) i _ (refl, fits) $ fjoin ! $ move ! (1 ∷ 0 ∷ []) $ fjoin ! $ done !
 
-      abbrev pub to-next-draw : ℕ → Cursor → NextDraw .Ghost
-      to-next-draw stop c = (((κ, tt), (p, tt), tt, (slice b o γ ws, (stop, (c, tt))), (sliceVal (b, o) m ∷ [], (vint w64 stop ∷ [], (mach-cursor c ∷ [], tt)))), tt)
+      abbrev pub to-next-draw : Cursor → NextDraw .Ghost
+      to-next-draw c = (((κ, tt), (p, tt), tt, (slice b o γ ws, (c, tt)), (sliceVal (b, o) m ∷ [], (mach-cursor c ∷ [], tt))), tt)
 
-      pub next-draw-pre : (stop : ℕ) (c : Cursor) → stop < 2 ^ 64 → IsCursor c → stop ≤ length ws → ent 𝓤 Given-book (NextDraw .pre (to-next-draw stop c))
-      next-draw-pre stop c fits is asked =
+      pub next-draw-pre : (c : Cursor) → IsCursor c → Sound ws c → ent 𝓤 Given-book (NextDraw .pre (to-next-draw c))
+      next-draw-pre c is asked =
           qed W (‵ (flft κ p) ∷ ‵ (shr-own u32 (named 0) κ γ b o m ws) ∷ []) ∵ says ! asked $ nothing ! $ move ! (1 ∷ 0 ∷ []) $ join ! $ frame ! $
-          nothing ! $ owned ! TC.the-row (Is TC.the-row) (cursor-makes 𝓤 H A) c _ is $ fjoin ! $ owned ! usize (Is usize) (uint-makes 𝓤 H A W w64) stop _ (refl, fits) $ fjoin ! $ move ! (1 ∷ 0 ∷ []) $ fjoin ! $ done !
+          nothing ! $ owned ! TC.the-row (Is TC.the-row) (cursor-makes 𝓤 H A) c _ is $ fjoin ! $ move ! (1 ∷ 0 ∷ []) $ fjoin ! $ done !
 
     -- over the register
     module _ (b o n : ℕ) (ys : List Entry) (i : ℕ) (i-fits : i < 2 ^ 64) where
@@ -176,15 +170,14 @@ module _ {M : Type 1} (𝓤 : URA M) (H : Heap 𝓤) (A : Atoms 𝓤) (mem : Mem
             -- [the book; the register]
             nothing ! $ owned ! usize (Is usize) (uint-makes 𝓤 H A W w64) i _ (refl, i-fits) $ fjoin ! $ move ! (2 ∷ 0 ∷ []) $ fjoin ! $ move ! (1 ∷ 0 ∷ []) $ fjoin ! $ done !
 
-        abbrev pub to-settle : ℕ → ℕ → GName → Settle .Ghost
-        to-settle stop ν δ = (((κ, (ν ∷ [], tt)), (p, (fullShare, tt)), tt, (slice b₀ o₀ γ₀ ws, (slice b o δ ys, (i, (stop, tt)))), (sliceVal (b₀, o₀) m ∷ [], (sliceVal (b, o) n ∷ [], (vint w64 i ∷ [], (vint w64 stop ∷ [], tt))))), tt)
+        abbrev pub to-settle : ℕ → GName → Settle .Ghost
+        to-settle ν δ = (((κ, (ν ∷ [], tt)), (p, (fullShare, tt)), tt, (slice b₀ o₀ γ₀ ws, (slice b o δ ys, (i, tt))), (sliceVal (b₀, o₀) m ∷ [], (sliceVal (b, o) n ∷ [], (vint w64 i ∷ [], tt)))), tt)
 
-        pub settle-pre : (stop : ℕ) → stop < 2 ^ 64 → (i ≤ 4096) × ((i ≤ length ys) × (stop ≤ length ws)) → (ν : ℕ) (δ : GName) → ent 𝓤 (Given-both ν δ) (Settle .pre (to-settle stop ν δ))
-        settle-pre stop fits asked ν δ =
+        pub settle-pre : ((2 ≤ length ws) × (length ws ≤ 2 ^ 20)) × ((i ≤ 4096) × (i ≤ length ys)) → (ν : ℕ) (δ : GName) → ent 𝓤 (Given-both ν δ) (Settle .pre (to-settle ν δ))
+        settle-pre asked ν δ =
             qed W (‵ (flft (ν ∷ []) fullShare) ∷ ‵ (mut-own R (named 1) (ν ∷ []) δ b o n ys) ∷ (‵ (shr-own u32 (named 0) κ γ₀ b₀ o₀ m ws) ⊛ ‵ (flft κ p)) ∷ []) ∵
             says ! asked $ move ! (2 ∷ []) $ split ! $ nothing ! $ move ! (3 ∷ 0 ∷ []) $ join ! $ move ! (2 ∷ 0 ∷ []) $ join ! $ frame ! $
-            nothing ! $ owned ! usize (Is usize) (uint-makes 𝓤 H A W w64) stop _ (refl, fits) $ fjoin ! $ owned ! usize (Is usize) (uint-makes 𝓤 H A W w64) i _ (refl, i-fits) $ fjoin ! $
-            move ! (2 ∷ 0 ∷ []) $ fjoin ! $ move ! (1 ∷ 0 ∷ []) $ fjoin ! $ done !
+            nothing ! $ owned ! usize (Is usize) (uint-makes 𝓤 H A W w64) i _ (refl, i-fits) $ fjoin ! $ move ! (2 ∷ 0 ∷ []) $ fjoin ! $ move ! (1 ∷ 0 ∷ []) $ fjoin ! $ done !
 
 module _ {M : Type 1} {𝓤 : URA M} {H : Heap 𝓤} {A : Atoms 𝓤} {K : Type 0} {W : Given 𝓤 H A} {Γ : List (Item 𝓤)} {E : Env 𝓤 H} {xs : List Operand} {G : Goal 𝓤 H} {after : Val → Goal 𝓤 H} (t : K) (mem : Memory → SProp 𝓤) (run : Routine → Fun 𝓤) where
   -- ---- over plain values
@@ -204,12 +197,11 @@ module _ {M : Type 1} {𝓤 : URA M} {H : Heap 𝓤} {A : Atoms 𝓤} {K : Type 
       (λ w. left 𝓤 H A W TA.the-row (Unit {0} × (Unit {0} × Unit {0})) (λ _. fsep ftrue (fsep ftrue ftrue)) (λ r. (r .number ≡ unfitFor e d) × (r .entry ≡ drawnDown e d)) w)
       os (λ w r is. regoal t after (told TA.the-type TA′.the-laws r w (is .0)) refl $ k r (known TA.the-type TA′.the-laws r w (is .0)) (is .1))
 
-  pub calls-cursor-behind : Call K W E xs (CursorBehind 𝓤 H A mem run) G after → (n : ℕ) → n < 2 ^ 64 → n ≤ 4096
-      → Opds K W (raw (CursorBehind 𝓤 H A mem run .pre (to-cursor-behind 𝓤 H A mem run W n)) ∷ Γ) E xs (vint w64 n ∷ [])
-      → (IsCursor (cursorBehind n) → Seq K W Γ (after (mach-cursor (cursorBehind n)))) → Seq K W Γ G
-  calls-cursor-behind cl n fits asked os k =
-      calls-plain {H = H} {A = A} {W = W} t (CursorBehind 𝓤 H A mem run) cl (to-cursor-behind 𝓤 H A mem run W n) (cursor-behind-pre 𝓤 H A mem run W n fits asked)
-      (λ r w. Is TC.the-row r (w ∷ []) × (r ≡ cursorBehind n)) (λ w. left 𝓤 H A W TC.the-row (Unit {0} × Unit {0}) (λ _. fsep ftrue ftrue) (λ r. r ≡ cursorBehind n) w)
+  pub calls-start : Call K W E xs (Start 𝓤 H A mem run) G after → Opds K W (raw (Start 𝓤 H A mem run .pre ((tt, tt, tt, tt, tt), tt)) ∷ Γ) E xs []
+      → (IsCursor startCursor → Seq K W Γ (after (mach-cursor startCursor))) → Seq K W Γ G
+  calls-start cl os k =
+      calls-plain {H = H} {A = A} {W = W} t (Start 𝓤 H A mem run) cl ((tt, tt, tt, tt, tt), tt) (qed W [] ∵ nothing ! $ nothing ! $ nothing ! $ join ! $ join ! $ done !)
+      (λ r w. Is TC.the-row r (w ∷ []) × (r ≡ startCursor)) (λ w. left 𝓤 H A W TC.the-row (Unit {0}) (λ _. ftrue) (λ r. r ≡ startCursor) w)
       os (λ w r is. regoal t after (told TC.the-type TC′.the-laws r w (is .0) ∙ ap mach-cursor (is .1)) refl $ k (subst IsCursor (is .1) (known TC.the-type TC′.the-laws r w (is .0))))
 
   -- ---- over the book
@@ -224,14 +216,14 @@ module _ {M : Type 1} {𝓤 : URA M} {H : Heap 𝓤} {A : Atoms 𝓤} {K : Type 
       (λ w. left-shared 𝓤 H A W R κ p (Lasts entry-from′.ended (κ, tt) (slice b o γ ws, (i, tt))) (λ _. fsep ftrue (fsep ftrue ftrue)) (λ r. r ≡ entryOf (protectionAt ws (protectionPlace i))) w)
       os (λ w r is. regoal t after (told TE.the-type TE′.the-laws r w (is .0) ∙ ap mach (is .1)) refl $ k (subst IsEntry (is .1) (known TE.the-type TE′.the-laws r w (is .0))))
 
-  pub calls-next-draw : Call K W E xs (NextDraw 𝓤 H A mem run) G after → (ℓ : Lifetime) {κ : Lft} {p : Share} {γ : GName} {b o m : ℕ} (ws : List ℕ) (stop : ℕ) (c : Cursor) → stop < 2 ^ 64 → IsCursor c → stop ≤ length ws
-      → Opds K W (raw (NextDraw 𝓤 H A mem run .pre (to-next-draw 𝓤 H A mem run W κ p b o γ m ws stop c)) ∷ ‵ (shr-own u32 ℓ κ γ b o m ws) ∷ Γ) E xs (sliceVal (b, o) m ∷ vint w64 stop ∷ mach-cursor c ∷ [])
-      → ((r : Found) → IsFound r → r ≡ nextDraw ws stop c → Seq K W (‵ (shr-own u32 ℓ κ γ b o m ws) ∷ ‵ (flft κ p) ∷ Γ) (after (mach-found r)))
+  pub calls-next-draw : Call K W E xs (NextDraw 𝓤 H A mem run) G after → (ℓ : Lifetime) {κ : Lft} {p : Share} {γ : GName} {b o m : ℕ} (ws : List ℕ) (c : Cursor) → IsCursor c → Sound ws c
+      → Opds K W (raw (NextDraw 𝓤 H A mem run .pre (to-next-draw 𝓤 H A mem run W κ p b o γ m ws c)) ∷ ‵ (shr-own u32 ℓ κ γ b o m ws) ∷ Γ) E xs (sliceVal (b, o) m ∷ mach-cursor c ∷ [])
+      → ((r : Found) → IsFound r → (ahead ws c ≡ foundAhead ws r) × SoundFound ws r → Seq K W (‵ (shr-own u32 ℓ κ γ b o m ws) ∷ ‵ (flft κ p) ∷ Γ) (after (mach-found r)))
       → Seq K W (‵ (shr-own u32 ℓ κ γ b o m ws) ∷ ‵ (flft κ p) ∷ Γ) G
-  calls-next-draw cl ℓ {κ} {p} {γ} {b} {o} {m} ws stop c fits c-is asked os k =
-      calls-passed {H = H} {A = A} {W = W} t (NextDraw 𝓤 H A mem run) cl u32 ℓ ws (to-next-draw 𝓤 H A mem run W κ p b o γ m ws stop c) (next-draw-pre 𝓤 H A mem run W κ p b o γ m ws stop c fits c-is asked)
-      (λ r w. Is TF.the-row r (w ∷ []) × (r ≡ nextDraw ws stop c))
-      (λ w. left-shared 𝓤 H A W TF.the-row κ p (Lasts next-draw′.ended (κ, tt) (slice b o γ ws, (stop, (c, tt)))) (λ _. fsep ftrue (fsep ftrue (fsep ftrue ftrue))) (λ r. r ≡ nextDraw ws stop c) w)
+  calls-next-draw cl ℓ {κ} {p} {γ} {b} {o} {m} ws c c-is asked os k =
+      calls-passed {H = H} {A = A} {W = W} t (NextDraw 𝓤 H A mem run) cl u32 ℓ ws (to-next-draw 𝓤 H A mem run W κ p b o γ m ws c) (next-draw-pre 𝓤 H A mem run W κ p b o γ m ws c c-is asked)
+      (λ r w. Is TF.the-row r (w ∷ []) × ((ahead ws c ≡ foundAhead ws r) × SoundFound ws r))
+      (λ w. left-shared 𝓤 H A W TF.the-row κ p (Lasts next-draw′.ended (κ, tt) (slice b o γ ws, (c, tt))) (λ _. fsep ftrue (fsep ftrue ftrue)) (λ r. (ahead ws c ≡ foundAhead ws r) × SoundFound ws r) w)
       os (λ w r is. regoal t after (told TF.the-type TF′.the-laws r w (is .0)) refl $ k r (known TF.the-type TF′.the-laws r w (is .0)) (is .1))
 
   -- ---- over the register
@@ -285,13 +277,13 @@ module _ {M : Type 1} {𝓤 : URA M} {H : Heap 𝓤} {A : Atoms 𝓤} {K : Type 
 
   -- for the crates above
   pub calls-settle : Call K W E xs (Settle 𝓤 H A mem run) G after → (ℓ : Lifetime) {κ : Lft} {p : Share} {γ : GName} {b o n : ℕ} (ys : List Entry) → length ys ≡ n → Room R n
-      → (ℓ₀ : Lifetime) {κ₀ : Lft} {p₀ : Share} {γ₀ : GName} {b₀ o₀ m : ℕ} (ws : List ℕ) (i stop : ℕ) (i-fits : i < 2 ^ 64) → stop < 2 ^ 64 → (i ≤ 4096) × ((i ≤ length ys) × (stop ≤ length ws))
-      → ((ν : ℕ) (δ : GName) → Opds K W (raw (Settle 𝓤 H A mem run .pre (to-settle 𝓤 H A mem run W b o n ys i i-fits κ₀ p₀ b₀ o₀ γ₀ m ws stop ν δ)) ∷ ‵ (Claim R κ (ν ∷ []) p γ b o δ ys) ∷ ‵ (shr-own u32 ℓ₀ κ₀ γ₀ b₀ o₀ m ws) ∷ Γ) E xs (sliceVal (b₀, o₀) m ∷ sliceVal (b, o) n ∷ vint w64 i ∷ vint w64 stop ∷ []))
-      → ((r : Settlement) (zs : List Entry) → IsSettlement r → length zs ≡ n → r ≡ answerOf (settling ws i stop) → zs ≡ registerOf i ys (settling ws i stop)
-      → Seq K W (‵ (mut-own R ℓ κ γ b o n zs) ∷ ‵ (flft κ p) ∷ ‵ (shr-own u32 ℓ₀ κ₀ γ₀ b₀ o₀ m ws) ∷ ‵ (flft κ₀ p₀) ∷ Γ) (after (mach-settlement r)))
+      → (ℓ₀ : Lifetime) {κ₀ : Lft} {p₀ : Share} {γ₀ : GName} {b₀ o₀ m : ℕ} (ws : List ℕ) (i : ℕ) (i-fits : i < 2 ^ 64) → ((2 ≤ length ws) × (length ws ≤ 2 ^ 20)) × ((i ≤ 4096) × (i ≤ length ys))
+      → ((ν : ℕ) (δ : GName) → Opds K W (raw (Settle 𝓤 H A mem run .pre (to-settle 𝓤 H A mem run W b o n ys i i-fits κ₀ p₀ b₀ o₀ γ₀ m ws ν δ)) ∷ ‵ (Claim R κ (ν ∷ []) p γ b o δ ys) ∷ ‵ (shr-own u32 ℓ₀ κ₀ γ₀ b₀ o₀ m ws) ∷ Γ) E xs (sliceVal (b₀, o₀) m ∷ sliceVal (b, o) n ∷ vint w64 i ∷ []))
+      → ((r : Reading) (zs : List Entry) → IsReading r → length zs ≡ n → r ≡ readingAfter ws i → zs ≡ leftAfter ws i ++ drop i ys
+      → Seq K W (‵ (mut-own R ℓ κ γ b o n zs) ∷ ‵ (flft κ p) ∷ ‵ (shr-own u32 ℓ₀ κ₀ γ₀ b₀ o₀ m ws) ∷ ‵ (flft κ₀ p₀) ∷ Γ) (after (mach-reading r)))
       → Seq K W (‵ (mut-own R ℓ κ γ b o n ys) ∷ ‵ (flft κ p) ∷ ‵ (shr-own u32 ℓ₀ κ₀ γ₀ b₀ o₀ m ws) ∷ ‵ (flft κ₀ p₀) ∷ Γ) G
-  calls-settle cl ℓ {κ} {p} {γ} {b} {o} {n} ys len room ℓ₀ {κ₀} {p₀} {γ₀} {b₀} {o₀} {m} ws i stop i-fits fits asked os k =
-      calls-both {H = H} {A = A} {W = W} t (Settle 𝓤 H A mem run) cl R ℓ ys len room u32 ℓ₀ ws (to-settle 𝓤 H A mem run W b o n ys i i-fits κ₀ p₀ b₀ o₀ γ₀ m ws stop) (settle-pre 𝓤 H A mem run W b o n ys i i-fits κ₀ p₀ b₀ o₀ γ₀ m ws stop fits asked)
-      (λ r w zs. Is TS.the-row r (w ∷ []) × ((r ≡ answerOf (settling ws i stop)) × (zs ≡ registerOf i ys (settling ws i stop))))
-      (λ ν δ w. left-both 𝓤 H A W TS.the-row R κ₀ p₀ ν δ (length ys) (Lasts settle′.ended (κ₀, (ν ∷ [], tt)) (slice b₀ o₀ γ₀ ws, (slice b o δ ys, (i, (stop, tt))))) (λ zs. zs .1 .0) (λ _. fsep ftrue (fsep ftrue ftrue)) (λ r zs. (r ≡ answerOf (settling ws i stop)) × (zs ≡ registerOf i ys (settling ws i stop))) w)
-      os (λ w r zs l is. regoal t after (told TS.the-type TS′.the-laws r w (is .0)) refl $ k r zs (known TS.the-type TS′.the-laws r w (is .0)) l (is .1 .0) (is .1 .1))
+  calls-settle cl ℓ {κ} {p} {γ} {b} {o} {n} ys len room ℓ₀ {κ₀} {p₀} {γ₀} {b₀} {o₀} {m} ws i i-fits asked os k =
+      calls-both {H = H} {A = A} {W = W} t (Settle 𝓤 H A mem run) cl R ℓ ys len room u32 ℓ₀ ws (to-settle 𝓤 H A mem run W b o n ys i i-fits κ₀ p₀ b₀ o₀ γ₀ m ws) (settle-pre 𝓤 H A mem run W b o n ys i i-fits κ₀ p₀ b₀ o₀ γ₀ m ws asked)
+      (λ r w zs. Is TR.the-row r (w ∷ []) × ((r ≡ readingAfter ws i) × (zs ≡ leftAfter ws i ++ drop i ys)))
+      (λ ν δ w. left-both 𝓤 H A W TR.the-row R κ₀ p₀ ν δ (length ys) (Lasts settle′.ended (κ₀, (ν ∷ [], tt)) (slice b₀ o₀ γ₀ ws, (slice b o δ ys, (i, tt)))) (λ zs. zs .1 .0) (λ _. fsep ftrue ftrue) (λ r zs. (r ≡ readingAfter ws i) × (zs ≡ leftAfter ws i ++ drop i ys)) w)
+      os (λ w r zs l is. regoal t after (told-case TR.the-type TR′.the-laws r w (is .0)) refl $ k r zs (known-case TR.the-type TR′.the-laws r w (is .0)) l (is .1 .0) (is .1 .1))

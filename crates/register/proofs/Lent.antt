@@ -12,10 +12,11 @@
 --     enters               a function is entered at locals that are written out, which is cheaper to check with many of them
 --     tests                the test of a `while`, with a premise for each outcome
 --     less, less-wf        the order by a measure, for `loops`
+--     twice-not, holds-true, fails-false    what a test told
 -- Assume `Given`, and of a call that the table of calls is monotone under a frame.
 use mathlib.Core.Path.{_≡_, refl, sym, _∙_, subst}
 use Prim.Native.Nat.{ℕ, _<_}
-use mathlib.Core.Bool.{Bool, not}
+use mathlib.Core.Bool.{Bool, true, false, not}
 use mathlib.Core.List.{List, [], _∷_}
 use mathlib.Core.WellFounded.{WellFounded, InvImage·wf}
 use lib.WfN.{Nat·lt-wfRel}
@@ -267,3 +268,17 @@ module _ {X : Type 0} (μ : X → ℕ) where
 
   pub less-wf : WellFounded less
   less-wf = InvImage·wf μ (Nat·lt-wfRel .wf)
+
+-- ---- what a test told
+
+pub twice-not : (y : Bool) → Holds (not (not y)) → Holds y
+twice-not true h = tt
+twice-not false h = h
+
+pub holds-true : (y : Bool) → Holds y → y ≡ true
+holds-true true h = refl
+holds-true false h = absurd h
+
+pub fails-false : (y : Bool) → Holds (not y) → y ≡ false
+fails-false true h = absurd h
+fails-false false h = refl

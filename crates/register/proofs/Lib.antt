@@ -3,5 +3,5 @@ pub mod Lent
 pub mod Loaded
 pub mod Relend
 pub mod Rows
-pub mod Search
 pub mod Settling
+pub mod Start

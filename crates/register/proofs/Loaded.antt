@@ -9,7 +9,7 @@ use lib.ListN.{length, set, drop, length-append, length-drop}
 use Rattle.rules.specs.declared.Entry.{Entry}
 use Rattle.rules.specs.Read.{protectionAt}
 use Rattle.rules.specs.Register.{entryOf}
-use Rattle.register.specs.Scan.{protectionPlace, loadedFrom}
+use Rattle.register.specs.Loading.{protectionPlace, loadedFrom}
 
 -- the entry of protection i
 abbrev pub loadedAt : List ℕ → ℕ → Entry

@@ -17,6 +17,8 @@ use denote.Index.{place, place-is}
 use denote.Steps.{only}
 use denote.Struct.Declared.{Declared, row}
 use denote.Struct.Laws as LL
+use denote.Enum.Declared as DE
+use denote.Enum.Laws as LE
 use Rattle.rules.specs.declared.Entry.{Entry}
 use Rattle.rules.specs.declared.Draw.{Draw}
 use Rattle.rules.specs.Register.{blank}
@@ -24,16 +26,17 @@ use Rattle.rules.proofs.Entry as TE
 use Rattle.rules.proofs.Entry.Laws as TE′
 use Rattle.rules.proofs.Draw as TD
 use Rattle.rules.proofs.Draw.Laws as TD′
-use Rattle.register.specs.declared.Cursor.{Cursor}
-use Rattle.register.specs.declared.Settlement.{Settlement}
-use Rattle.register.specs.declared.covers.Found.{Found}
+use Rattle.reading.specs.declared.Reading.{Reading}
+use Rattle.reading.specs.declared.Reading.the-variants.{Fault}
+use Rattle.reading.specs.declared.cursor.Cursor.{Cursor}
+use Rattle.reading.specs.declared.cursor.Found.{Found}
+use Rattle.reading.proofs.Reading as TR
+use Rattle.reading.proofs.Reading.Laws as TR′
+use Rattle.reading.proofs.cursor.Cursor as TC
+use Rattle.reading.proofs.cursor.Cursor.Laws as TC′
+use Rattle.reading.proofs.cursor.Found as TF
+use Rattle.reading.proofs.cursor.Found.Laws as TF′
 use Rattle.register.specs.declared.entries.Drawn.{Drawn}
-use Rattle.register.proofs.Cursor as TC
-use Rattle.register.proofs.Cursor.Laws as TC′
-use Rattle.register.proofs.Settlement as TS
-use Rattle.register.proofs.Settlement.Laws as TS′
-use Rattle.register.proofs.covers.Found as TF
-use Rattle.register.proofs.covers.Found.Laws as TF′
 use Rattle.register.proofs.entries.Drawn as TA
 use Rattle.register.proofs.entries.Drawn.Laws as TA′
 
@@ -51,7 +54,19 @@ module _ (T : Declared) (L : LL.Laws T) where
   pub known : (d : T .D) (u : Val) → Is (row T) d (u ∷ []) → Known d
   known d u is = subst (λ (v : Val). Is (row T) d (v ∷ [])) (told d u is) is
 
--- ---- the register's
+-- ---- any enum
+
+module _ (T : DE.Declared) (L : LE.Laws T) where
+  abbrev pub KnownCase : T .D → Type 0
+  KnownCase d = Is (DE.row T) d (LE.val T L d ∷ [])
+
+  pub told-case : (d : T .D) (u : Val) → Is (DE.row T) d (u ∷ []) → u ≡ LE.val T L d
+  told-case d u is = ap only (LE.tells T L d (u ∷ []) is)
+
+  pub known-case : (d : T .D) (u : Val) → Is (DE.row T) d (u ∷ []) → KnownCase d
+  known-case d u is = subst (λ (v : Val). Is (DE.row T) d (v ∷ [])) (told-case d u is) is
+
+-- ---- the register's, and those of the reading
 
 abbrev pub R : RattleType
 R = TE.the-row
@@ -86,14 +101,14 @@ mach-found = LL.val TF.the-type TF′.the-laws
 abbrev pub IsFound : Found → Type 0
 IsFound = Known TF.the-type TF′.the-laws
 
-abbrev pub mach-settlement : Settlement → Val
-mach-settlement = LL.val TS.the-type TS′.the-laws
+abbrev pub mach-reading : Reading → Val
+mach-reading = LE.val TR.the-type TR′.the-laws
 
-abbrev pub IsSettlement : Settlement → Type 0
-IsSettlement = Known TS.the-type TS′.the-laws
+abbrev pub IsReading : Reading → Type 0
+IsReading = KnownCase TR.the-type TR′.the-laws
 
-pub is-settlement : (number place : ℕ) → number < 2 ^ 32 → place < 2 ^ 64 → IsSettlement (record { number = number; place = place })
-is-settlement number at a b = LL.owes TS.the-type TS′.the-laws (record { number = number; place = at }) ((refl, a), ((refl, b), tt))
+pub is-fault : (number place : ℕ) → number < 2 ^ 32 → place < 2 ^ 64 → IsReading (Fault number place)
+is-fault number place a b = LE.owes TR.the-type TR′.the-laws (Fault number place) ((refl, a), ((refl, b), tt))
 
 -- the parts of what is known
 pub its-draw : (f : Found) → IsFound f → IsDraw (f .draw)
@@ -101,6 +116,9 @@ its-draw f g = LL.owed TF.the-type TF′.the-laws f _ g .1 .0
 
 pub its-cursor : (f : Found) → IsFound f → IsCursor (f .cursor)
 its-cursor f g = LL.owed TF.the-type TF′.the-laws f _ g .1 .1 .0
+
+pub its-reading : (f : Found) → IsFound f → IsReading (f .reading)
+its-reading f g = LL.owed TF.the-type TF′.the-laws f _ g .1 .1 .1 .0
 
 pub its-place : (d : Draw) → IsDraw d → d .at < 2 ^ 64
 its-place d g = LL.owed TD.the-type TD′.the-laws d _ g .0 .1
@@ -126,8 +144,8 @@ module _ {M : Type 1} (𝓤 : URA M) (H : Heap 𝓤) (A : Atoms 𝓤) where
   pub cursor-makes : Makes 𝓤 H A TC.the-row (Is TC.the-row)
   cursor-makes = LL.makes TC.the-type TC′.the-plain 𝓤 H A
 
-  pub settlement-makes : Makes 𝓤 H A TS.the-row (Is TS.the-row)
-  settlement-makes = LL.makes TS.the-type TS′.the-plain 𝓤 H A
+  pub reading-makes : Makes 𝓤 H A TR.the-row (Is TR.the-row)
+  reading-makes = LE.makes TR.the-type TR′.the-plain 𝓤 H A
 
   -- each may be stored
   module _ (W : Given 𝓤 H A) where
@@ -143,5 +161,5 @@ module _ {M : Type 1} (𝓤 : URA M) (H : Heap 𝓤) (A : Atoms 𝓤) where
     pub typed-found : (f : Found) → IsFound f → Holds (hasTy TF′.mir (mach-found f)) × WT (mach-found f)
     typed-found f g = LL.lawful TF.the-type TF′.the-laws 𝓤 H A W .typed f _ g .0
 
-    pub typed-settlement : (r : Settlement) → IsSettlement r → Holds (hasTy TS′.mir (mach-settlement r)) × WT (mach-settlement r)
-    typed-settlement r g = LL.lawful TS.the-type TS′.the-laws 𝓤 H A W .typed r _ g .0
+    pub typed-reading : (r : Reading) → IsReading r → Holds (hasTy TR′.mir (mach-reading r)) × WT (mach-reading r)
+    typed-reading r g = LE.lawful TR.the-type TR′.the-laws 𝓤 H A W tt .typed r _ g .0

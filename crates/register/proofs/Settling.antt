@@ -1,23 +1,25 @@
--- One draw from a register whose first entries are those of the definition: the number and the entries agree, and the others stay.
--- Assumes nothing.
+-- The draws of a book one after the other: one draw from a register whose first entries are those of the definition, and what the
+-- entries and what lies ahead come to. Assumes nothing.
 use Prim.Native.Nat.{ℕ, zero, suc, _<_}
 use mathlib.Core.Path.{_≡_, refl, sym, _∙_, ap}
 use mathlib.Core.Bool.{Bool, true, false, not, cond}
 use mathlib.Core.List.{List, [], _∷_, _++_}
 use native.Mathlib.Nat.{lt-irrefl}
 use native.Mathlib.Omega.{arith}
-use borrow.Author.Tests.{leb-false, eq-eqb}
+use borrow.Author.Tests.{leb-false, eq-eqb, ne-eqb}
 use lib.Dec.{lit<, leb, T as Holds}
-use lib.ListN.{length, set, getD, drop, List·getD-append}
-use lib.Seq.{set-append-left, drop-set-lt, drop-at}
+use lib.ListN.{length, set, getD, List·getD-append}
+use lib.Seq.{set-append-left, set-getD}
 use Rattle.rules.specs.declared.Draw.{Draw}
 use Rattle.rules.specs.declared.Entry.{Entry}
 use Rattle.rules.specs.Faults.{cause}
-use Rattle.rules.specs.Register.{blank, unfitFor, drawFault, drawn, unfit, settled, ifFit, settle}
-use Rattle.register.specs.declared.Cursor.{Cursor}
-use Rattle.register.specs.declared.covers.Found.{Found}
-use Rattle.register.specs.Draws.{nextDraw, drawsFound, drawnDown, faultIn, drawnIn}
-use Rattle.register.proofs.Search.{drawsFrom, all-draws}
+use Rattle.rules.specs.Register.{blank, unfitFor, drawFault, drawn, ifFit, settle}
+use Rattle.reading.specs.declared.Reading.{Reading}
+use Rattle.reading.specs.declared.Reading.the-variants.{Fault}
+use Rattle.reading.specs.declared.cursor.Cursor.{Cursor}
+use Rattle.reading.specs.declared.cursor.Found.{Found}
+use Rattle.reading.specs.Ahead.{Ahead, endsAt, after, ahead, foundAhead}
+use Rattle.register.specs.Draws.{drawnDown, faultIn, drawnIn, firstFault, leftBy}
 
 -- ---- one draw
 
@@ -46,50 +48,57 @@ module _ (b : ℕ) (es rest : List Entry) (len : length es ≡ b) (d : Draw) whe
           let inside = leb-false b (d .protection) e in
           rw (eq-eqb _ 0 f, at-front inside) (set-append-left es rest (d .protection) _ (rw len inside))
 
-  -- whether it fits or not, the others stay
-  pub others-stay : drop b (drawnIn b (es ++ rest) d) ≡ rest
-  unfolding drawnIn
-  others-stay = by-place (leb b (d .protection)) refl
+  -- where it does not fit
+  pub unfit-stays : (faultIn b (es ++ rest) d ≡ 0 → ⊥) → drawnIn b (es ++ rest) d ≡ es ++ rest
+  unfolding faultIn drawnIn drawnDown cause
+  unfit-stays = by-place (leb b (d .protection))
     where
-      by-place : (p : Bool) → leb b (d .protection) ≡ p
-          → drop b (cond p (es ++ rest) (set (es ++ rest) (d .protection) (drawnDown (getD (es ++ rest) (d .protection) blank) d))) ≡ rest
-      by-place true e = drop-at es rest b len
-      by-place false e = drop-set-lt b (es ++ rest) (d .protection) _ (leb-false b (d .protection) e) ∙ drop-at es rest b len
+      by-place : (p : Bool) → (cond p 11 (unfitFor (getD (es ++ rest) (d .protection) blank) d) ≡ 0 → ⊥)
+          → cond p (es ++ rest) (set (es ++ rest) (d .protection) (drawnDown (getD (es ++ rest) (d .protection) blank) d)) ≡ es ++ rest
+      by-place true f = refl
+      by-place false f = rw (ne-eqb _ 0 f) (set-getD (es ++ rest) (d .protection) blank)
 
--- ---- the draws one after the other: f is what is found from the cursor c on
+-- ---- all draws: what is answered and what is left, from some entries on
 
-module _ (ws : List ℕ) (stop : ℕ) (c : Cursor) (f : Found) (is : f ≡ nextDraw ws stop c) where
-  found-draws : Holds (f .some) → drawsFrom ws stop c ≡ f .draw ∷ drawsFrom ws stop (f .cursor)
-  unfolding drawsFound
-  found-draws h = all-draws ws stop c ∙ ap (drawsFound ws stop) (sym is) ∙ by-some (f .some) h
+abbrev pub Ends : Type 0
+Ends = Reading × List Entry
+
+unfoldable pub comesTo : List Entry → Ahead → Ends
+comesTo es a = (firstFault (a .reading) (settle es (a .draws)), leftBy es (a .draws))
+
+pub ends : (es : List Entry) (r : Reading) → comesTo es (endsAt r) ≡ (r, es)
+unfolding comesTo settle leftBy
+ends es r = refl
+
+module _ (es : List Entry) (d : Draw) (a : Ahead) where
+  pub refuses : (drawFault es d ≡ 0 → ⊥) → comesTo es (after (d ∷ []) a) ≡ (Fault (drawFault es d) (d .at), es)
+  unfolding comesTo settle leftBy
+  refuses f = rw (ne-eqb (drawFault es d) 0 f) (by-number (drawFault es d) f)
     where
-      by-some : (p : Bool) → Holds p → cond p (f .draw ∷ drawsFrom ws stop (f .cursor)) [] ≡ f .draw ∷ drawsFrom ws stop (f .cursor)
+      by-number : (n : ℕ) → (n ≡ 0 → ⊥) → _≡_ {A = Ends} (firstFault (a .reading) (ifFit n (d .at) (settle (drawn es d) (a .draws))), es) (Fault n (d .at), es)
+      by-number zero f = absurd (f refl)
+      by-number (suc n) f = refl
+
+  pub goes-on : drawFault es d ≡ 0 → comesTo es (after (d ∷ []) a) ≡ comesTo (drawn es d) a
+  unfolding comesTo settle leftBy
+  goes-on e = simp e
+
+-- ---- f is what is found from the cursor c on
+
+module _ (ws : List ℕ) (c : Cursor) (f : Found) (is : ahead ws c ≡ foundAhead ws f) where
+  pub found : Holds (f .some) → ahead ws c ≡ after (f .draw ∷ []) (ahead ws (f .cursor))
+  found h = is ∙ by-some (f .some) h
+    where
+      by-some : (p : Bool) → Holds p → cond p (after (f .draw ∷ []) (ahead ws (f .cursor))) (endsAt (f .reading)) ≡ after (f .draw ∷ []) (ahead ws (f .cursor))
       by-some true h = refl
       by-some false h = absurd h
 
-  no-draws : Holds (not (f .some)) → drawsFrom ws stop c ≡ []
-  unfolding drawsFound
-  no-draws h = all-draws ws stop c ∙ ap (drawsFound ws stop) (sym is) ∙ by-some (f .some) h
+  pub none : Holds (not (f .some)) → ahead ws c ≡ endsAt (f .reading)
+  none h = is ∙ by-some (f .some) h
     where
-      by-some : (p : Bool) → Holds (not p) → cond p (f .draw ∷ drawsFrom ws stop (f .cursor)) [] ≡ []
+      by-some : (p : Bool) → Holds (not p) → cond p (after (f .draw ∷ []) (ahead ws (f .cursor))) (endsAt (f .reading)) ≡ endsAt (f .reading)
       by-some true h = absurd h
       by-some false h = refl
 
-  pub fewer : Holds (f .some) → length (drawsFrom ws stop (f .cursor)) < length (drawsFrom ws stop c)
-  fewer h = rw (found-draws h) (omega arith)
-
-  pub ends : (es : List Entry) → Holds (not (f .some)) → settle es (drawsFrom ws stop c) ≡ settled es
-  unfolding settle
-  ends es h = rw (no-draws h) refl
-
-  pub refuses : (es : List Entry) (number : ℕ) → Holds (f .some) → number ≡ drawFault es (f .draw) → (number ≡ 0 → ⊥) → settle es (drawsFrom ws stop c) ≡ unfit number (f .draw .at)
-  unfolding settle
-  refuses es number h e fault = rw (found-draws h, sym e) (by-number number fault)
-    where
-      by-number : (n : ℕ) → (n ≡ 0 → ⊥) → ifFit n (f .draw .at) (settle (drawn es (f .draw)) (drawsFrom ws stop (f .cursor))) ≡ unfit n (f .draw .at)
-      by-number zero fault = absurd (fault refl)
-      by-number (suc n) fault = refl
-
-  pub goes-on : (es : List Entry) → Holds (f .some) → drawFault es (f .draw) ≡ 0 → settle es (drawsFrom ws stop c) ≡ settle (drawn es (f .draw)) (drawsFrom ws stop (f .cursor))
-  unfolding settle
-  goes-on es h e = rw (found-draws h, e) refl
+  pub fewer : Holds (f .some) → length (ahead ws (f .cursor) .draws) < length (ahead ws c .draws)
+  fewer h = rw (found h) (omega arith)

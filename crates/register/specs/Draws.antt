@@ -1,49 +1,17 @@
--- What the functions of the settling pass answer: the next draw of the book, one entry after a draw, and what the pass leaves.
--- Assumes nothing.
-use Prim.Native.Nat.{ℕ, zero, suc}
-use mathlib.Core.Bool.{true, false, cond}
-use mathlib.Core.List.{List, [], _∷_, _++_}
+-- What becomes of one entry by a draw, and of the register by all draws of a book. Assumes nothing.
+use Prim.Native.Nat.{ℕ}
+use mathlib.Core.Bool.{cond}
+use mathlib.Core.List.{List, [], _∷_}
 use lib.Dec.{eqb, leb}
-use lib.ListN.{drop, getD, replicate, set}
+use lib.ListN.{getD, set}
 use Rattle.rules.specs.declared.Draw.{Draw}
 use Rattle.rules.specs.declared.Entry.{Entry}
-use Rattle.rules.specs.Word.{word, kindOf}
 use Rattle.rules.specs.Faults.{cause}
-use Rattle.rules.specs.Register.{blank, unfitFor, drawnFrom, Settled, unfit, settled, settle}
-use Rattle.register.specs.declared.Cursor.{Cursor}
-use Rattle.register.specs.declared.Settlement.{Settlement}
-use Rattle.register.specs.declared.covers.Found.{Found}
-use Rattle.register.specs.Scan.{loadedFrom, opened, taken, passed, drawAt, scanFrom, scanned}
-
--- ---- the next draw
-
--- past a record that is no cover
-unfoldable pub behind : List ℕ → Cursor → Cursor
-behind ws c = cond (eqb (kindOf (word ws (c .at))) 6) (opened ws c) (passed ws c)
-
-abbrev pub noDraw : Draw
-noDraw = record { at = 0; entity = 0; rank = 0; days = 0; room = 0; protection = 0; amount = 0 }
-
-abbrev pub nothing : Cursor → Found
-nothing c = record { some = false; draw = noDraw; cursor = c }
-
-abbrev pub coverAtCursor : List ℕ → Cursor → Found
-coverAtCursor ws c = record { some = true; draw = drawAt ws c; cursor = taken ws c }
-
--- the first cover from a cursor on and before a place; `most` bounds the records as in scanFrom
-unfoldable pub nextFrom : List ℕ → (stop most : ℕ) → Cursor → Found
-nextFrom ws stop zero c = nothing c
-nextFrom ws stop (suc most) c =
-    cond (leb stop (c .at)) (nothing c)
-    (cond (eqb (kindOf (word ws (c .at))) 7) (coverAtCursor ws c)
-    (nextFrom ws stop most (behind ws c)))
-
-abbrev pub nextDraw : List ℕ → (stop : ℕ) → Cursor → Found
-nextDraw ws stop c = nextFrom ws stop (suc stop) c
-
--- the draws from what was found on
-unfoldable pub drawsFound : List ℕ → (stop : ℕ) → Found → List Draw
-drawsFound ws stop f = cond (f .some) (f .draw ∷ scanFrom ws stop (suc stop) (f .cursor)) []
+use Rattle.rules.specs.Register.{blank, unfitFor, drawFault, drawnFrom, drawn, Settled, unfit, settled, settle}
+use Rattle.reading.specs.declared.Reading.{Reading}
+use Rattle.reading.specs.declared.Reading.the-variants.{Fault}
+use Rattle.reading.specs.Ahead.{recordsAhead}
+use Rattle.register.specs.Loading.{loadedFrom}
 
 -- ---- one draw
 
@@ -60,18 +28,21 @@ drawnIn b entries d =
     cond (leb b (d .protection)) entries
     (set entries (d .protection) (drawnDown (getD entries (d .protection) blank) d))
 
--- ---- the pass
+-- ---- all draws
 
--- the draws up to a place, settled from the b protections of the book
-abbrev pub settling : List ℕ → (b stop : ℕ) → Settled
-settling ws b stop = settle (loadedFrom ws b 0) (scanned ws b stop)
+-- "the first faulty record": a cover that does not fit stands before the place at which the reading ends
+abbrev pub firstFault : Reading → Settled → Reading
+firstFault r (unfit number place) = Fault number place
+firstFault r (settled entries) = r
 
--- the answer, with the number 0 where all draws fit
-abbrev pub answerOf : Settled → Settlement
-answerOf (unfit number place) = record { number = number; place = place }
-answerOf (settled entries) = record { number = 0; place = 0 }
+-- the entries after the draws before the first that does not fit
+unfoldable pub leftBy : List Entry → List Draw → List Entry
+leftBy entries [] = entries
+leftBy entries (d ∷ ds) = cond (eqb (drawFault entries d) 0) (leftBy (drawn entries d) ds) entries
 
--- a register after it: the first b entries as they are settled, or all zero; the others as they were
-abbrev pub registerOf : (b : ℕ) → List Entry → Settled → List Entry
-registerOf b register (unfit number place) = replicate b blank ++ drop b register
-registerOf b register (settled entries) = entries ++ drop b register
+-- those of a book with b protections
+unfoldable pub readingAfter : List ℕ → (b : ℕ) → Reading
+readingAfter ws b = firstFault (recordsAhead ws .reading) (settle (loadedFrom ws b 0) (recordsAhead ws .draws))
+
+unfoldable pub leftAfter : List ℕ → (b : ℕ) → List Entry
+leftAfter ws b = leftBy (loadedFrom ws b 0) (recordsAhead ws .draws)

@@ -1,2 +1,2 @@
+pub mod Loading
 pub mod Draws
-pub mod Scan

@@ -1,14 +1,14 @@
 // The words of the book, and the protections among them.
 use rules::Entry;
 use words::amount::size;
+use words::numbers::short_of;
 use words::parts::field;
-use words::parts::kind;
 ghost use mathlib.Core.Path.{_≡_};
-ghost use Prim.Native.Nat.{_≤_, _-_};
-ghost use Rattle.rules.specs.Word.{kindOf, sizeOf, word};
+ghost use Prim.Native.Nat.{_≤_};
+ghost use Rattle.rules.specs.Word.{sizeOf, word};
 ghost use Rattle.rules.specs.Read.{protectionAt};
 ghost use Rattle.rules.specs.Register.{entryOf};
-ghost use Rattle.register.specs.Scan.{protectionPlace};
+ghost use Rattle.register.specs.Loading.{protectionPlace};
 
 // The word at a place; 0 beyond the end, so that whoever reads has no index to prove.
 pub fn word_at(book: &[u32], at: usize) -> u32
@@ -20,28 +20,11 @@ pub fn word_at(book: &[u32], at: usize) -> u32
     0
 }
 
-// The kind of the word at a place.
-pub fn kind_at(book: &[u32], at: usize) -> u32
-    ensures { λ r. ⌜ r ≡ kindOf (word (now (book .entry)) at) ⌝ }
-{
-    kind(word_at(book, at))
-}
-
 // The size of the amount at a place.
 pub fn size_at(book: &[u32], at: usize) -> u32
     ensures { λ r. ⌜ r ≡ sizeOf (word (now (book .entry)) at) ⌝ }
 {
     size(word_at(book, at))
-}
-
-// a minus b, or 0 where b is more.
-pub fn less(a: u32, b: u32) -> u32
-    ensures { λ r. ⌜ r ≡ a - b ⌝ }
-{
-    if a < b {
-        return 0;
-    }
-    a - b
 }
 
 // Protection i of the book, of which nothing is drawn yet.
@@ -55,6 +38,6 @@ pub fn entry_from(book: &[u32], i: usize) -> Entry
         entity: field(head, 0, 16),
         rank: field(head, 16, 4),
         days: size_at(book, at + 3),
-        left: less(size_at(book, at + 1), size_at(book, at + 2)),
+        left: short_of(size_at(book, at + 1), size_at(book, at + 2)),
     }
 }

@@ -1,14 +1,14 @@
 // The lent register. What becomes of an entry is decided by value in `drawn_down`; the functions that hold the slice only read and store.
 use crate::book::entry_from;
-use crate::book::less;
 use rules::Draw;
 use rules::Entry;
+use words::numbers::short_of;
 ghost use mathlib.Core.Path.{_≡_};
 ghost use Prim.Native.Nat.{_≤_, _<_};
 ghost use mathlib.Core.List.{_++_};
 ghost use lib.ListN.{drop, length, replicate, set};
 ghost use Rattle.rules.specs.Register.{blank, unfitFor};
-ghost use Rattle.register.specs.Scan.{loadedFrom};
+ghost use Rattle.register.specs.Loading.{loadedFrom};
 ghost use Rattle.register.specs.Draws.{drawnDown, faultIn, drawnIn};
 
 // An entry after a draw, and the number of the cause where the draw does not fit.
@@ -51,7 +51,7 @@ pub fn drawn_down(e: Entry, d: Draw) -> Drawn
         };
     }
     let before = e.left;
-    let after = less(before, d.amount);
+    let after = short_of(before, d.amount);
     Drawn {
         entry: Entry {
             entity: e.entity,

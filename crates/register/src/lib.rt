@@ -1,59 +1,38 @@
-// The covers of a book, drawn from the lent register of entries one after the other as they stand in the words.
+// The lent register: the covers of a book are drawn from it one after the other, as the reading comes to them.
 mod book;
-mod covers;
 mod entries;
 
 pub use crate::book::word_at;
-use crate::covers::cursor_behind;
-use crate::covers::next_draw;
 pub use crate::entries::clear;
 use crate::entries::draw;
 use crate::entries::load_all;
+use reading::Reading;
+use reading::cursor::next_draw;
+use reading::cursor::start;
 use rules::Entry;
 ghost use mathlib.Core.Path.{_≡_};
-ghost use Prim.Native.Nat.{_≤_};
-ghost use lib.ListN.{length};
-ghost use Rattle.register.specs.Draws.{answerOf, registerOf, settling};
+ghost use mathlib.Core.List.{_++_};
+ghost use Prim.Native.Nat.{_≤_, _^_};
+ghost use lib.ListN.{drop, length};
+ghost use Rattle.register.specs.Draws.{readingAfter, leftAfter};
 
-// Where the search for covers stands, and the written credit that a cover there would belong to: its entity, rank and days, and what
-// is left of its notional minus loss.
-pub struct Cursor {
-    pub at: usize,
-    pub entity: u32,
-    pub rank: u32,
-    pub days: u32,
-    pub room: u32,
-}
-
-// The number and the place of the first cover that does not fit; the number is 0 where all fit.
-pub struct Settlement {
-    pub number: u32,
-    pub place: usize,
-}
-
-// Loads the b protections of the book and draws every cover before `stop`. At the first that does not fit the entries are cleared.
-pub fn settle(book: &[u32], register: &mut [Entry], b: usize, stop: usize) -> Settlement
-    requires { ⌜ (b ≤ 4096) × ((b ≤ length (now register)) × (stop ≤ length (now book))) ⌝ }
-    ensures { λ r. ⌜ (r ≡ answerOf (settling (now (book .entry)) b stop))
-        × (now (register .exit) ≡ registerOf b (now (register .entry)) (settling (now (book .entry)) b stop)) ⌝ }
+// Loads the b protections of the book, reads it, and draws every cover. It ends with the first fault, be it of a record by itself or of
+// a cover that does not fit; the draws before it stand.
+pub fn settle(book: &[u32], register: &mut [Entry], b: usize) -> Reading
+    requires { ⌜ ((2 ≤ length (now book)) × (length (now book) ≤ 2 ^ 20)) × ((b ≤ 4096) × (b ≤ length (now register))) ⌝ }
+    ensures { λ r. ⌜ (r ≡ readingAfter (now (book .entry)) b)
+        × (now (register .exit) ≡ leftAfter (now (book .entry)) b ++ drop b (now (register .entry))) ⌝ }
 {
     load_all(book, register, b);
-    let mut cursor = cursor_behind(b);
+    let mut cursor = start();
     loop {
-        let found = next_draw(book, stop, cursor);
+        let found = next_draw(book, cursor);
         if !found.some {
-            return Settlement {
-                number: 0,
-                place: 0,
-            };
+            return found.reading;
         }
         let number = draw(register, b, found.draw);
         if number != 0 {
-            clear(register, b);
-            return Settlement {
-                number: number,
-                place: found.draw.at,
-            };
+            return Reading::Fault(number, found.draw.at);
         }
         cursor = found.cursor;
     }

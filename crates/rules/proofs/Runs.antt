@@ -1,11 +1,11 @@
 -- Laws of a run, once for every kind of record: what holds of all its records, how far it reaches and how large a sum over it is, and
 -- two runs side by side. Assumes nothing.
 use Prim.Native.Nat.{ℕ, zero, suc, _+_, _*_, _≤_, _<_}
-use mathlib.Core.Path.{_≡_, refl}
+use mathlib.Core.Path.{_≡_, refl, ap}
 use mathlib.Core.Bool.{Bool, true, false, cond}
 use native.Mathlib.Omega.{arith}
 use Rattle.rules.specs.Book.{total}
-use Rattle.rules.specs.Run.{Turn, over, bad, some, Run, thenRun, runFrom, sound}
+use Rattle.rules.specs.Run.{Turn, over, bad, some, Run, withOne, thenRun, runFrom, sound}
 use Rattle.rules.proofs.Lists.{Every, Pairs}
 use Rattle.rules.proofs.Lists
 
@@ -53,6 +53,26 @@ module _ {A : Type 0} (n C : ℕ) (f : A → ℕ) where
   unfolding runFrom
   fine-run turn t zero at h = record { onward = omega arith; within = h; small = omega arith }
   fine-run turn t (suc k) at h = fine-then at (turn at) h (t at h) (runFrom turn k) (λ next l. fine-run turn t k next l)
+
+  -- the bound on the records decides nothing where it is large enough
+  module _ (turn : ℕ → Turn A) (t : (at : ℕ) → at ≤ n → FineTurn at (turn at)) where
+    enough-then : (at k m : ℕ) (x : Turn A) → FineTurn at x → ((next : ℕ) → next ≤ n → at < next → runFrom turn k next ≡ runFrom turn m next)
+        → thenRun x at (runFrom turn k) ≡ thenRun x at (runFrom turn m)
+    enough-then at k m over l r = refl
+    enough-then at k m (bad number place) l r = refl
+    enough-then at k m (some a zero next) l r = ap (withOne a) (r next (l .1) (l .0))
+    enough-then at k m (some a (suc number) place) l r = refl
+
+    enough : (k m at : ℕ) → at ≤ n → n < at + k → n < at + m → runFrom turn k at ≡ runFrom turn m at
+    unfolding runFrom
+    enough zero m at h a b = let z : ⊥ = omega arith in absurd z
+    enough (suc k) zero at h a b = let z : ⊥ = omega arith in absurd z
+    enough (suc k) (suc m) at h a b = enough-then at k m (turn at) (t at h) (λ next l o. enough k m next l (omega arith) (omega arith))
+
+    -- so a run goes on as it began
+    pub run-on : (at : ℕ) → at ≤ n → runFrom turn (suc n) at ≡ thenRun (turn at) at (runFrom turn (suc n))
+    unfolding runFrom
+    run-on at h = enough-then at n (suc n) (turn at) (t at h) (λ next l o. enough n (suc n) next l (omega arith) (omega arith))
 
 -- ---- two runs side by side
 

@@ -2,7 +2,6 @@ pub mod SamplesHold
 pub mod Accepted
 pub mod Financing
 pub mod Valid
-pub mod Uncovered
 pub mod Settling
 pub mod Conserve
 pub mod FactorBounds

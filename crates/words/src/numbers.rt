@@ -23,6 +23,13 @@ pub fn less(a: u64, b: u64) -> u64
     if a < b { 0 } else { a - b }
 }
 
+// The same of 32 bits.
+pub fn short_of(a: u32, b: u32) -> u32
+    ensures { λ r. ⌜ r ≡ a - b ⌝ }
+{
+    if a < b { 0 } else { a - b }
+}
+
 pub fn lesser(a: u64, b: u64) -> u64
     ensures { λ r. ⌜ r ≡ min a b ⌝ }
 {

@@ -1,49 +1,53 @@
-use Rattle.derivatives.proofs.Turns.{member-beyond, member-trade, member-written, member-none}
-use Rattle.derivatives.specs.Steps.{memberStep}
-use Rattle.rules.specs.Run.{Turn}
-use Rattle.rules.specs.Book.{Member}
-use mathlib.Core.Path.{_∙_, sym, ap}
+use mathlib.Core.Path.{_∙_}
+use Rattle.derivatives.proofs.Covering.{due, not-due, some-open}
 use borrow.Author.Needs.{needs}
 use Rattle.derivatives.proofs.members.member.Statement.{statement}
 use Rattle.derivatives.proofs.members.member.Tie as tie
 
+cover-due-requires : tie.Need-cover-due-requires
+cover-due-requires c κs = search needs
+
+cover-requires : tie.Need-cover-requires
+cover-requires c κs =
+    let e = c .before .before .before in
+    let if1′ = c .if1 in
+    let cover-due′ = c .before .cover-due in
+    let d = due _ _ _ (cover-due′ .ensures) (if1′ .taken) in ((e .pre), (d .0, d .1))
+
 returns : tie.Need-returns
-returns c = member-beyond (c .before .before .args .part .now) (c .before .before .args .at) (c .before .before .args .bands) (c .before .before .args .t) (c .if1 .taken)
+returns c =
+    let e = c .before .before .before .before in
+    let cover′ = c .cover in
+    let if1′ = c .before .if1 in
+    let cover-due′ = c .before .before .cover-due in
+    (some-open (e .args .bands) (e .args .part .now) (e .args .begin) (e .args .o) (e .pre) (due _ _ _ (cover-due′ .ensures) (if1′ .taken) .0) ∙ cover′ .ensures .0, cover′ .ensures .1)
 
-mul-kind : tie.Need-mul-kind
-mul-kind c = search needs
+closed-requires : tie.Need-closed-requires
+closed-requires c κs =
+    let e = c .before .before .before in
+    let if1′ = c .if1 in
+    let cover-due′ = c .before .cover-due in
+    ((e .pre), (λ h. not-due _ _ _ (cover-due′ .ensures) (if1′ .left) h))
 
-shared-slice-read-kind : tie.Need-shared-slice-read-kind
-shared-slice-read-kind c = search needs
-
-kind-requires : tie.Need-kind-requires
-kind-requires c κs = search needs
-
-trade-requires : tie.Need-trade-requires
-trade-requires c κs = let p = c .before .before .before .before .before .pre in ((p .0), record { within = (c .before .before .before .if1 .left); short = (p .1); has-kind = sym (c .before .kind .ensures) ∙ (c .if2 .taken) })
+member-at-requires : tie.Need-member-at-requires
+member-at-requires c κs =
+    let e = c .before .before .before .before in
+    let closed′ = c .closed in
+    record { short = (e .pre) .short; within = (e .pre) .within; small = closed′ .ensures .1 }
 
 returns-2 : tie.Need-returns-2
-returns-2 c = let a = c .before .before .before .before .before .before .args in (c .trade .ensures) ∙ ap (λ (u : Turn Member). memberStep (a .bands) (a .t) u) (member-trade (a .part .now) (a .at) (c .before .before .before .before .if1 .left) (c .before .before .kind .result) (c .before .before .kind .ensures) (c .before .if2 .taken))
-
-written-requires : tie.Need-written-requires
-written-requires c κs = let p = c .before .before .before .before .before .before .pre in ((p .0), record { within = (c .before .before .before .before .if1 .left); short = (p .1); has-kind = sym (c .before .before .kind .ensures) ∙ (c .if3 .taken) })
-
-returns-3 : tie.Need-returns-3
-returns-3 c = let a = c .before .before .before .before .before .before .before .args in (c .written .ensures) ∙ ap (λ (u : Turn Member). memberStep (a .bands) (a .t) u) (member-written (a .part .now) (a .at) (c .before .before .before .before .before .if1 .left) (c .before .before .before .kind .result) (c .before .before .before .kind .ensures) (c .before .before .if2 .left) (c .before .if3 .taken))
-
-returns-4 : tie.Need-returns-4
-returns-4 c = let a = c .before .before .before .before .before .before .args in member-none (a .part .now) (a .at) (c .before .before .before .before .if1 .left) (c .before .before .kind .result) (c .before .before .kind .ensures) (a .bands) (a .t) (c .before .if2 .left) (c .if3 .left)
+returns-2 c =
+    let member-at′ = c .member-at in
+    let closed′ = c .before .closed in
+    (closed′ .ensures .0 ∙ member-at′ .ensures .0, member-at′ .ensures .1)
 
 pub member-spec : {M : Type 1} → statement M
 member-spec =
     tie.close
     (tie.spec
+    cover-due-requires
+    cover-requires
     returns
-    mul-kind
-    shared-slice-read-kind
-    kind-requires
-    trade-requires
-    returns-2
-    written-requires
-    returns-3
-    returns-4)
+    closed-requires
+    member-at-requires
+    returns-2)

@@ -1,21 +1,30 @@
-use Rattle.records.proofs.Words.{room}
-use Rattle.derivatives.proofs.Turns.{trade-lacks, trade-wrong, trade-on}
 use native.Mathlib.Omega.{arith}
+use Rattle.theorems.proofs.Records.{stands-is}
+use Rattle.records.proofs.Words.{room}
+use Rattle.derivatives.proofs.Turns.{small-roomy, trade-lacks, trade-wrong, trade-on, trade-sound}
 use borrow.Author.Needs.{needs}
 use Rattle.derivatives.proofs.members.trade.Statement.{statement}
 use Rattle.derivatives.proofs.members.trade.Tie as tie
 
 lacking-requires : tie.Need-lacking-requires
-lacking-requires c κs = search needs
+lacking-requires c κs =
+    let e = c .before in
+    (e .pre .0 .within, (omega (arith, e .pre .0 .short), omega arith))
 
 returns : tie.Need-returns
-returns c = let a = c .before .before .before .args in trade-lacks (a .bands) (a .t) _ _ (c .before .before .before .pre .1) _ (c .before .lacking .ensures) (c .if1 .taken)
+returns c =
+    let e = c .before .before .before in
+    let if1′ = c .if1 in
+    let lacking′ = c .before .lacking in
+    (trade-lacks (e .args .bands) (e .args .part .now) (e .args .begin) (e .args .t) (e .args .at) (e .pre .0) (e .pre .1) _ (lacking′ .ensures) (if1′ .taken), tt)
 
 mul-w : tie.Need-mul-w
 mul-w c = search needs
 
 shared-slice-read-w : tie.Need-shared-slice-read-w
-shared-slice-read-w c = search needs
+shared-slice-read-w c =
+    let e = c .before .before .before .before in
+    stands-is 5 (e .args .part .now) (e .args .at) (e .pre .1) .0
 
 add-value : tie.Need-add-value
 add-value c = search needs
@@ -24,7 +33,11 @@ mul-value : tie.Need-mul-value
 mul-value c = search needs
 
 shared-slice-read-value : tie.Need-shared-slice-read-value
-shared-slice-read-value c = room _ 1 _ _ _ (c .before .before .before .lacking .ensures) (c .before .before .if1 .left) (c .before .before .before .before .before .pre .1 .within) (omega arith)
+shared-slice-read-value c =
+    let e = c .before .before .before .before .before in
+    let if1′ = c .before .before .if1 in
+    let lacking′ = c .before .before .before .lacking in
+    room 4 1 (e .args .part .now) (e .args .at) _ (lacking′ .ensures) (if1′ .left) (stands-is 5 (e .args .part .now) (e .args .at) (e .pre .1) .0) (omega arith)
 
 add-notional : tie.Need-add-notional
 add-notional c = search needs
@@ -35,9 +48,9 @@ mul-notional c = search needs
 shared-slice-read-notional : tie.Need-shared-slice-read-notional
 shared-slice-read-notional c =
     let e = c .before .before .before .before .before .before in
-    let if1 = c .before .before .before .if1 in
-    let lacking = c .before .before .before .before .lacking in
-    room _ 2 _ _ _ (lacking .ensures) (if1 .left) (e .pre .1 .within) (omega arith)
+    let if1′ = c .before .before .before .if1 in
+    let lacking′ = c .before .before .before .before .lacking in
+    room 4 2 (e .args .part .now) (e .args .at) _ (lacking′ .ensures) (if1′ .left) (stands-is 5 (e .args .part .now) (e .args .at) (e .pre .1) .0) (omega arith)
 
 add-days : tie.Need-add-days
 add-days c = search needs
@@ -48,9 +61,9 @@ mul-days c = search needs
 shared-slice-read-days : tie.Need-shared-slice-read-days
 shared-slice-read-days c =
     let e = c .before .before .before .before .before .before .before in
-    let if1 = c .before .before .before .before .if1 in
-    let lacking = c .before .before .before .before .before .lacking in
-    room _ 3 _ _ _ (lacking .ensures) (if1 .left) (e .pre .1 .within) (omega arith)
+    let if1′ = c .before .before .before .before .if1 in
+    let lacking′ = c .before .before .before .before .before .lacking in
+    room 4 3 (e .args .part .now) (e .args .at) _ (lacking′ .ensures) (if1′ .left) (stands-is 5 (e .args .part .now) (e .args .at) (e .pre .1) .0) (omega arith)
 
 add-reset-days : tie.Need-add-reset-days
 add-reset-days c = search needs
@@ -61,24 +74,43 @@ mul-reset-days c = search needs
 shared-slice-read-reset-days : tie.Need-shared-slice-read-reset-days
 shared-slice-read-reset-days c =
     let e = c .before .before .before .before .before .before .before .before in
-    let if1 = c .before .before .before .before .before .if1 in
-    let lacking = c .before .before .before .before .before .before .lacking in
-    room _ 4 _ _ _ (lacking .ensures) (if1 .left) (e .pre .1 .within) (omega arith)
+    let if1′ = c .before .before .before .before .before .if1 in
+    let lacking′ = c .before .before .before .before .before .before .lacking in
+    room 4 4 (e .args .part .now) (e .args .at) _ (lacking′ .ensures) (if1′ .left) (stands-is 5 (e .args .part .now) (e .args .at) (e .pre .1) .0) (omega arith)
 
 trade-fault-requires : tie.Need-trade-fault-requires
 trade-fault-requires c κs = search needs
 
 returns-2 : tie.Need-returns-2
-returns-2 c = let a = c .before .before .before .before .before .before .before .before .before .before .args in trade-wrong (a .bands) (a .t) _ _ (c .before .before .before .before .before .before .before .before .before .before .pre .1) _ (c .before .before .before .before .before .before .before .before .lacking .ensures) (c .before .before .before .before .before .before .before .if1 .left) _ (c .before .trade-fault .ensures) (c .if2 .taken)
+returns-2 c =
+    let e = c .before .before .before .before .before .before .before .before .before .before in
+    let if2′ = c .if2 in
+    let trade-fault′ = c .before .trade-fault in
+    let if1′ = c .before .before .before .before .before .before .before .if1 in
+    let lacking′ = c .before .before .before .before .before .before .before .before .lacking in
+    (trade-wrong (e .args .bands) (e .args .part .now) (e .args .begin) (e .args .t) (e .args .at) (e .pre .0) (e .pre .1) _ (lacking′ .ensures) (if1′ .left) _ (trade-fault′ .ensures) (if2′ .taken), tt)
+
+add-t14 : tie.Need-add-t14
+add-t14 c = search needs
 
 add-trade-requires : tie.Need-add-trade-requires
-add-trade-requires c κs = search needs
+add-trade-requires c κs =
+    let e = c .before .before .before .before .before .before .before .before .before .before in
+    small-roomy (e .args .t) (e .args .at) (e .pre .0 .small) (omega (arith, e .pre .0 .within, e .pre .0 .short))
 
-add-t13 : tie.Need-add-t13
-add-t13 c = search needs
+no-credit-requires : tie.Need-no-credit-requires
+no-credit-requires c κs = search needs
 
 returns-3 : tie.Need-returns-3
-returns-3 c = let a = c .before .before .before .before .before .before .before .before .before .before .before .args in trade-on (a .bands) (a .t) _ _ (c .before .before .before .before .before .before .before .before .before .before .before .pre .1) _ (c .before .before .before .before .before .before .before .before .before .lacking .ensures) (c .before .before .before .before .before .before .before .before .if1 .left) _ (c .before .before .trade-fault .ensures) (c .before .if2 .left) _ (c .add-trade .ensures)
+returns-3 c =
+    let e = c .before .before .before .before .before .before .before .before .before .before .before .before in
+    let no-credit′ = c .no-credit in
+    let add-trade′ = c .before .add-trade in
+    let if2′ = c .before .before .if2 in
+    let trade-fault′ = c .before .before .before .trade-fault in
+    let if1′ = c .before .before .before .before .before .before .before .before .before .if1 in
+    let lacking′ = c .before .before .before .before .before .before .before .before .before .before .lacking in
+    (trade-on (e .args .bands) (e .args .part .now) (e .args .begin) (e .args .t) (e .args .at) (e .pre .0) (e .pre .1) _ (lacking′ .ensures) (if1′ .left) _ (trade-fault′ .ensures) (if2′ .left) _ (add-trade′ .ensures) _ (no-credit′ .ensures), trade-sound (e .args .bands) (e .args .part .now) (e .args .begin) (e .args .t) (e .args .at) (e .pre .0) (e .pre .1) _ (lacking′ .ensures) (if1′ .left) _ (trade-fault′ .ensures) (if2′ .left) _ (add-trade′ .ensures) _ (no-credit′ .ensures))
 
 pub trade-spec : {M : Type 1} → statement M
 trade-spec =
@@ -102,6 +134,7 @@ trade-spec =
     shared-slice-read-reset-days
     trade-fault-requires
     returns-2
+    add-t14
     add-trade-requires
-    add-t13
+    no-credit-requires
     returns-3)

@@ -1,30 +1,22 @@
-use Rattle.records.proofs.Words.{room}
-use Rattle.derivatives.proofs.Turns.{loss-under, written-lacks, written-wrong, covers-wrong, covered-small, covers-on}
-use borrow.Author.Needs.{needs}
 use native.Mathlib.Omega.{arith}
+use Rattle.theorems.proofs.Records.{stands-is}
+use Rattle.records.proofs.Words.{room}
+use Rattle.derivatives.proofs.Turns.{loss-under, written-lacks, written-wrong, written-on, written-sound}
+use borrow.Author.Needs.{needs}
 use Rattle.derivatives.proofs.members.written.Statement.{statement}
 use Rattle.derivatives.proofs.members.written.Tie as tie
 
 lacking-requires : tie.Need-lacking-requires
-lacking-requires c κs = search needs
+lacking-requires c κs =
+    let e = c .before in
+    (e .pre .0 .within, (omega (arith, e .pre .0 .short), omega arith))
 
 returns : tie.Need-returns
-returns c = let a = c .before .before .before .args in written-lacks (a .bands) (a .t) _ _ (c .before .before .before .pre .1) _ (c .before .lacking .ensures) (c .if1 .taken)
-
-mul-w : tie.Need-mul-w
-mul-w c = search needs
-
-shared-slice-read-w : tie.Need-shared-slice-read-w
-shared-slice-read-w c = search needs
-
-add-value : tie.Need-add-value
-add-value c = search needs
-
-mul-value : tie.Need-mul-value
-mul-value c = search needs
-
-shared-slice-read-value : tie.Need-shared-slice-read-value
-shared-slice-read-value c = room _ 1 _ _ _ (c .before .before .before .lacking .ensures) (c .before .before .if1 .left) (c .before .before .before .before .before .pre .1 .within) (omega arith)
+returns c =
+    let e = c .before .before .before in
+    let if1′ = c .if1 in
+    let lacking′ = c .before .lacking in
+    (written-lacks (e .args .bands) (e .args .part .now) (e .args .begin) (e .args .t) (e .args .at) (e .pre .0) (e .pre .1) _ (lacking′ .ensures) (if1′ .taken), tt)
 
 add-notional : tie.Need-add-notional
 add-notional c = search needs
@@ -34,10 +26,10 @@ mul-notional c = search needs
 
 shared-slice-read-notional : tie.Need-shared-slice-read-notional
 shared-slice-read-notional c =
-    let e = c .before .before .before .before .before .before in
-    let if1 = c .before .before .before .if1 in
-    let lacking = c .before .before .before .before .lacking in
-    room _ 2 _ _ _ (lacking .ensures) (if1 .left) (e .pre .1 .within) (omega arith)
+    let e = c .before .before .before .before in
+    let if1′ = c .before .if1 in
+    let lacking′ = c .before .before .lacking in
+    room 5 2 (e .args .part .now) (e .args .at) _ (lacking′ .ensures) (if1′ .left) (stands-is 6 (e .args .part .now) (e .args .at) (e .pre .1) .0) (omega arith)
 
 add-loss-taken : tie.Need-add-loss-taken
 add-loss-taken c = search needs
@@ -47,63 +39,97 @@ mul-loss-taken c = search needs
 
 shared-slice-read-loss-taken : tie.Need-shared-slice-read-loss-taken
 shared-slice-read-loss-taken c =
-    let e = c .before .before .before .before .before .before .before in
-    let if1 = c .before .before .before .before .if1 in
-    let lacking = c .before .before .before .before .before .lacking in
-    room _ 3 _ _ _ (lacking .ensures) (if1 .left) (e .pre .1 .within) (omega arith)
-
-add-premiums : tie.Need-add-premiums
-add-premiums c = search needs
-
-mul-premiums : tie.Need-mul-premiums
-mul-premiums c = search needs
-
-shared-slice-read-premiums : tie.Need-shared-slice-read-premiums
-shared-slice-read-premiums c =
-    let e = c .before .before .before .before .before .before .before .before in
-    let if1 = c .before .before .before .before .before .if1 in
-    let lacking = c .before .before .before .before .before .before .lacking in
-    room _ 5 _ _ _ (lacking .ensures) (if1 .left) (e .pre .1 .within) (omega arith)
-
-add-written-fault : tie.Need-add-written-fault
-add-written-fault c = search needs
+    let e = c .before .before .before .before .before in
+    let if1′ = c .before .before .if1 in
+    let lacking′ = c .before .before .before .lacking in
+    room 5 3 (e .args .part .now) (e .args .at) _ (lacking′ .ensures) (if1′ .left) (stands-is 6 (e .args .part .now) (e .args .at) (e .pre .1) .0) (omega arith)
 
 mul-written-fault : tie.Need-mul-written-fault
 mul-written-fault c = search needs
 
 shared-slice-read-written-fault : tie.Need-shared-slice-read-written-fault
 shared-slice-read-written-fault c =
+    let e = c .before .before .before .before .before .before in
+    stands-is 6 (e .args .part .now) (e .args .at) (e .pre .1) .0
+
+add-written-fault : tie.Need-add-written-fault
+add-written-fault c = search needs
+
+mul-written-fault-2 : tie.Need-mul-written-fault-2
+mul-written-fault-2 c = search needs
+
+shared-slice-read-written-fault-2 : tie.Need-shared-slice-read-written-fault-2
+shared-slice-read-written-fault-2 c =
+    let e = c .before .before .before .before .before .before .before in
+    let if1′ = c .before .before .before .before .if1 in
+    let lacking′ = c .before .before .before .before .before .lacking in
+    room 5 1 (e .args .part .now) (e .args .at) _ (lacking′ .ensures) (if1′ .left) (stands-is 6 (e .args .part .now) (e .args .at) (e .pre .1) .0) (omega arith)
+
+add-written-fault-2 : tie.Need-add-written-fault-2
+add-written-fault-2 c = search needs
+
+mul-written-fault-3 : tie.Need-mul-written-fault-3
+mul-written-fault-3 c = search needs
+
+shared-slice-read-written-fault-3 : tie.Need-shared-slice-read-written-fault-3
+shared-slice-read-written-fault-3 c =
+    let e = c .before .before .before .before .before .before .before .before in
+    let if1′ = c .before .before .before .before .before .if1 in
+    let lacking′ = c .before .before .before .before .before .before .lacking in
+    room 5 4 (e .args .part .now) (e .args .at) _ (lacking′ .ensures) (if1′ .left) (stands-is 6 (e .args .part .now) (e .args .at) (e .pre .1) .0) (omega arith)
+
+add-written-fault-3 : tie.Need-add-written-fault-3
+add-written-fault-3 c = search needs
+
+mul-written-fault-4 : tie.Need-mul-written-fault-4
+mul-written-fault-4 c = search needs
+
+shared-slice-read-written-fault-4 : tie.Need-shared-slice-read-written-fault-4
+shared-slice-read-written-fault-4 c =
     let e = c .before .before .before .before .before .before .before .before .before in
-    let if1 = c .before .before .before .before .before .before .if1 in
-    let lacking = c .before .before .before .before .before .before .before .lacking in
-    room _ 4 _ _ _ (lacking .ensures) (if1 .left) (e .pre .1 .within) (omega arith)
+    let if1′ = c .before .before .before .before .before .before .if1 in
+    let lacking′ = c .before .before .before .before .before .before .before .lacking in
+    room 5 5 (e .args .part .now) (e .args .at) _ (lacking′ .ensures) (if1′ .left) (stands-is 6 (e .args .part .now) (e .args .at) (e .pre .1) .0) (omega arith)
 
 written-fault-requires : tie.Need-written-fault-requires
 written-fault-requires c κs = search needs
 
 returns-2 : tie.Need-returns-2
-returns-2 c = let a = c .before .before .before .before .before .before .before .before .before .before .before .args in written-wrong (a .bands) (a .t) _ _ (c .before .before .before .before .before .before .before .before .before .before .before .pre .1) _ (c .before .before .before .before .before .before .before .before .before .lacking .ensures) (c .before .before .before .before .before .before .before .before .if1 .left) _ (c .before .written-fault .ensures) (c .if2 .taken)
+returns-2 c =
+    let e = c .before .before .before .before .before .before .before .before .before .before .before in
+    let if2′ = c .if2 in
+    let written-fault′ = c .before .written-fault in
+    let if1′ = c .before .before .before .before .before .before .before .before .if1 in
+    let lacking′ = c .before .before .before .before .before .before .before .before .before .lacking in
+    (written-wrong (e .args .bands) (e .args .part .now) (e .args .begin) (e .args .t) (e .args .at) (e .pre .0) (e .pre .1) _ (lacking′ .ensures) (if1′ .left) _ (written-fault′ .ensures) (if2′ .taken), tt)
 
-add-cover-sum : tie.Need-add-cover-sum
-add-cover-sum c = search needs
+size-requires : tie.Need-size-requires
+size-requires c κs = search needs
 
-cover-sum-requires : tie.Need-cover-sum-requires
-cover-sum-requires c κs = let p = c .before .before .before .before .before .before .before .before .before .before .before .pre in (omega (arith, room _ 5 _ _ _ (c .before .before .before .before .before .before .before .before .before .lacking .ensures) (c .before .before .before .before .before .before .before .before .if1 .left) (p .1 .within) (omega arith)), (p .1 .short))
+size-requires-2 : tie.Need-size-requires-2
+size-requires-2 c κs = search needs
 
-enum-known-number : tie.Need-enum-known-number
-enum-known-number c = search needs
+sub-t28 : tie.Need-sub-t28
+sub-t28 c =
+    let size2′ = c .size2 in
+    let size′ = c .before .size in
+    let if2′ = c .before .before .if2 in
+    let written-fault′ = c .before .before .before .written-fault in
+    rw (size′ .ensures, size2′ .ensures) (loss-under _ _ _ _ _ _ _ (written-fault′ .ensures) (if2′ .left))
 
-enum-known-covered : tie.Need-enum-known-covered
-enum-known-covered c = search needs
-
-add-written-requires : tie.Need-add-written-requires
-add-written-requires c κs = let a = c .before .before .before .before .before .before .before .before .before .before .before .before .before .before .before .args in let p = c .before .before .before .before .before .before .before .before .before .before .before .before .before .before .before .pre in ((p .0), (loss-under _ _ _ _ _ _ _ (c .before .before .before .before .before .written-fault .ensures) (c .before .before .before .before .if2 .left), covered-small (a .bands) (a .t) _ _ (p .1) _ (c .before .before .before .before .before .before .before .before .before .before .before .before .before .lacking .ensures) (c .before .before .before .before .before .before .before .before .before .before .before .before .if1 .left) _ (c .before .before .before .before .before .written-fault .ensures) (c .before .before .before .before .if2 .left) _ (c .before .before .before .cover-sum .ensures) _ _ (c .before .covered .given .1)))
+add-t12 : tie.Need-add-t12
+add-t12 c = search needs
 
 returns-3 : tie.Need-returns-3
-returns-3 c = let a = c .before .before .before .before .before .before .before .before .before .before .before .before .before .before .before .args in covers-wrong (a .bands) (a .t) _ _ (c .before .before .before .before .before .before .before .before .before .before .before .before .before .before .before .pre .1) _ (c .before .before .before .before .before .before .before .before .before .before .before .before .before .lacking .ensures) (c .before .before .before .before .before .before .before .before .before .before .before .before .if1 .left) _ (c .before .before .before .before .before .written-fault .ensures) (c .before .before .before .before .if2 .left) _ (c .before .before .before .cover-sum .ensures) _ _ (c .before .number .given .1)
-
-returns-4 : tie.Need-returns-4
-returns-4 c = let a = c .before .before .before .before .before .before .before .before .before .before .before .before .before .before .before .before .args in covers-on (a .bands) (a .t) _ _ (c .before .before .before .before .before .before .before .before .before .before .before .before .before .before .before .before .pre .1) _ (c .before .before .before .before .before .before .before .before .before .before .before .before .before .before .lacking .ensures) (c .before .before .before .before .before .before .before .before .before .before .before .before .before .if1 .left) _ (c .before .before .before .before .before .before .written-fault .ensures) (c .before .before .before .before .before .if2 .left) _ (c .before .before .before .before .cover-sum .ensures) _ _ (c .before .before .covered .given .1) _ (c .add-written .ensures)
+returns-3 c =
+    let e = c .before .before .before .before .before .before .before .before .before .before .before .before .before in
+    let size2′ = c .size2 in
+    let size′ = c .before .size in
+    let if2′ = c .before .before .if2 in
+    let written-fault′ = c .before .before .before .written-fault in
+    let if1′ = c .before .before .before .before .before .before .before .before .before .before .if1 in
+    let lacking′ = c .before .before .before .before .before .before .before .before .before .before .before .lacking in
+    (written-on (e .args .bands) (e .args .part .now) (e .args .begin) (e .args .t) (e .args .at) (e .pre .0) (e .pre .1) _ (lacking′ .ensures) (if1′ .left) _ (written-fault′ .ensures) (if2′ .left) _ (simp (size′ .ensures, size2′ .ensures)), written-sound (e .args .bands) (e .args .part .now) (e .args .begin) (e .args .t) (e .args .at) (e .pre .0) (e .pre .1) _ (lacking′ .ensures) (if1′ .left) _ (written-fault′ .ensures) (if2′ .left) _ (simp (size′ .ensures, size2′ .ensures)))
 
 pub written-spec : {M : Type 1} → statement M
 written-spec =
@@ -111,29 +137,27 @@ written-spec =
     (tie.spec
     lacking-requires
     returns
-    mul-w
-    shared-slice-read-w
-    add-value
-    mul-value
-    shared-slice-read-value
     add-notional
     mul-notional
     shared-slice-read-notional
     add-loss-taken
     mul-loss-taken
     shared-slice-read-loss-taken
-    add-premiums
-    mul-premiums
-    shared-slice-read-premiums
-    add-written-fault
     mul-written-fault
     shared-slice-read-written-fault
+    add-written-fault
+    mul-written-fault-2
+    shared-slice-read-written-fault-2
+    add-written-fault-2
+    mul-written-fault-3
+    shared-slice-read-written-fault-3
+    add-written-fault-3
+    mul-written-fault-4
+    shared-slice-read-written-fault-4
     written-fault-requires
     returns-2
-    add-cover-sum
-    cover-sum-requires
-    enum-known-number
-    enum-known-covered
-    add-written-requires
-    returns-3
-    returns-4)
+    size-requires
+    size-requires-2
+    sub-t28
+    add-t12
+    returns-3)

@@ -1,4 +1,4 @@
-use Rattle.derivatives.proofs.Weighing.{Weighing, weighing-start, small-roomy, weigh-end, weigh-stop, weigh-onward, weighing-next}
+use Rattle.derivatives.proofs.Weighing.{Weighing, weighing-start, weighing-next, weighing-onward, weighing-draws, weighing-ends, weighing-stops}
 use borrow.Author.Needs.{needs}
 use Prim.Native.Nat.{_-_}
 use lib.ListN.{length}
@@ -6,40 +6,43 @@ use Rattle.derivatives.proofs.set.weigh.Statement.{statement}
 use Rattle.derivatives.proofs.set.weigh.Tie as tie
 
 abbrev Inv-loop : tie.InvT-loop
-Inv-loop part bands t₀ at₀ t at = Weighing bands part t at
+Inv-loop part begin bands o₀ o = Weighing bands part begin o₀ o
 
 abbrev μ-loop : tie.MeasureT-loop
-μ-loop part bands t₀ at₀ t at = length part - at
-
-new-requires : tie.Need-new-requires Inv-loop μ-loop
-new-requires c κs = search needs
+μ-loop part begin bands o₀ o = length part - o .at
 
 loop-holds : tie.Need-loop-holds Inv-loop μ-loop
-loop-holds c = weighing-start (c .before .before .args .bands) (c .before .before .args .part .now) (c .new .result) (c .new .ensures) (c .before .before .pre .0)
+loop-holds c = weighing-start _ _ _ _ (c .before .pre)
 
 member-requires : tie.Need-member-requires Inv-loop μ-loop
-member-requires c κs = let p = c .before .before .before .pre in (small-roomy _ _ _ (c .loop .inv .small) (c .loop .inv .along .within) (p .1), (p .1))
+member-requires c κs = c .loop .inv .sound
 
-enum-known-more : tie.Need-enum-known-more Inv-loop μ-loop
-enum-known-more c = search needs
+enum-known-next : tie.Need-enum-known-next Inv-loop μ-loop
+enum-known-next c = search needs
 
 loop-less : tie.Need-loop-less Inv-loop μ-loop
-loop-less c = weigh-onward _ _ _ _ (c .before .before .before .before .loop .inv) _ (c .before .before .before .member .ensures) _ _ (c .before .more .given .1)
+loop-less c = weighing-onward _ _ _ _ _ (c .before .before .before .before .loop .inv) _ (c .before .before .before .member .ensures) _ (c .before .next .given .1)
 
 loop-again : tie.Need-loop-again Inv-loop μ-loop
-loop-again c = weighing-next _ _ _ _ (c .before .before .before .before .loop .inv) _ (c .before .before .before .member .ensures) _ _ (c .before .more .given .1)
+loop-again c = weighing-next _ _ _ _ _ (c .before .before .before .before .loop .inv) _ (c .before .before .before .member .ensures) _ (c .before .next .given .1)
 
-enum-told : tie.Need-enum-told Inv-loop μ-loop
-enum-told c = search needs
+enum-known-draw : tie.Need-enum-known-draw Inv-loop μ-loop
+enum-known-draw c = search needs
 
 returns : tie.Need-returns Inv-loop μ-loop
-returns c = weigh-end _ _ _ _ (c .before .before .before .loop .inv) _ (c .before .before .member .ensures) (c .enum-told .given .1)
+returns c = weighing-draws _ _ _ _ _ (c .before .before .before .before .loop .inv) _ (c .before .before .before .member .ensures) _ _ (c .before .draw .given .1)
+
+enum-known-t : tie.Need-enum-known-t Inv-loop μ-loop
+enum-known-t c = search needs
+
+returns-2 : tie.Need-returns-2 Inv-loop μ-loop
+returns-2 c = weighing-ends _ _ _ _ _ (c .before .before .before .before .loop .inv) _ (c .before .before .before .member .ensures) _ (c .before .t .given .1)
 
 enum-known-number : tie.Need-enum-known-number Inv-loop μ-loop
 enum-known-number c = search needs
 
-returns-2 : tie.Need-returns-2 Inv-loop μ-loop
-returns-2 c = weigh-stop _ _ _ _ (c .before .before .before .before .loop .inv) _ (c .before .before .before .member .ensures) _ _ (c .before .number .given .1)
+returns-3 : tie.Need-returns-3 Inv-loop μ-loop
+returns-3 c = weighing-stops _ _ _ _ _ (c .before .before .before .before .loop .inv) _ (c .before .before .before .member .ensures) _ _ (c .before .number .given .1)
 
 pub weigh-spec : {M : Type 1} → statement M
 weigh-spec =
@@ -47,13 +50,14 @@ weigh-spec =
     (tie.spec
     Inv-loop
     μ-loop
-    new-requires
     loop-holds
     member-requires
-    enum-known-more
+    enum-known-next
     loop-less
     loop-again
-    enum-told
+    enum-known-draw
     returns
+    enum-known-t
+    returns-2
     enum-known-number
-    returns-2)
+    returns-3)

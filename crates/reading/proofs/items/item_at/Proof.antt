@@ -1,11 +1,13 @@
 use native.Mathlib.Omega.{arith}
-use Rattle.reading.proofs.ItemLaws.{item-beyond, end-miscounted, end-followed, end-good, item-more, item-halt, next-within, place-within}
+use Rattle.reading.proofs.HeadLaws.{stands-there, beyond, no-item}
 use borrow.Author.Needs.{needs}
 use Rattle.reading.proofs.items.item_at.Statement.{statement}
 use Rattle.reading.proofs.items.item_at.Tie as tie
 
 returns : tie.Need-returns
-returns c = item-beyond (c .before .before .args .bands) (c .before .before .args .s) ((c .before .before .args .book .now)) (c .before .before .args .at) (c .if1 .taken)
+returns c =
+    let e = c .before .before in
+    (beyond (e .args .bands) (e .args .book .now) (e .args .s) (e .args .at) (e .pre) (c .if1 .taken), tt)
 
 mul-kind : tie.Need-mul-kind
 mul-kind c = search needs
@@ -16,103 +18,56 @@ shared-slice-read-kind c = search needs
 kind-requires : tie.Need-kind-requires
 kind-requires c κs = search needs
 
-mul-payload : tie.Need-mul-payload
-mul-payload c = search needs
-
-shared-slice-read-payload : tie.Need-shared-slice-read-payload
-shared-slice-read-payload c = search needs
-
-payload-requires : tie.Need-payload-requires
-payload-requires c κs = search needs
-
-cast-if3 : tie.Need-cast-if3
-cast-if3 c = search needs
+assets-at-requires : tie.Need-assets-at-requires
+assets-at-requires c κs =
+    let e = c .before .before .before .before .before in
+    let kind = c .before .kind in
+    (e .pre, stands-there (e .args .book .now) (e .args .at) (kind .result) 2 (omega arith) (kind .ensures) (c .if2 .taken))
 
 returns-2 : tie.Need-returns-2
-returns-2 c =
-    let e = c .before .before .before .before .before .before .before .before in
-    let a = e .args in
-    let if2 = c .before .before .before .if2 in
-    let kind = c .before .before .before .before .kind in
-    end-miscounted (a .bands) (a .s) (a .book .now) (a .at) (omega arith) (kind .result) (kind .ensures) (if2 .taken) (c .before .payload .result) (c .before .payload .ensures) (c .if3 .taken)
+returns-2 c = search needs
 
-add-if4 : tie.Need-add-if4
-add-if4 c = search needs
+set-at-requires : tie.Need-set-at-requires
+set-at-requires c κs =
+    let e = c .before .before .before .before .before .before in
+    let kind = c .before .before .kind in
+    (e .pre, stands-there (e .args .book .now) (e .args .at) (kind .result) 4 (omega arith) (kind .ensures) (c .if3 .taken))
 
 returns-3 : tie.Need-returns-3
-returns-3 c =
-    let e = c .before .before .before .before .before .before .before .before .before in
-    let a = e .args in
-    let payload = c .before .before .payload in
-    let if2 = c .before .before .before .before .if2 in
-    let kind = c .before .before .before .before .before .kind in
-    end-followed (a .bands) (a .s) (a .book .now) (a .at) (omega arith) (kind .result) (kind .ensures) (if2 .taken) (payload .result) (payload .ensures) (c .before .if3 .left) (c .if4 .taken)
+returns-3 c = search needs
+
+financing-at-requires : tie.Need-financing-at-requires
+financing-at-requires c κs =
+    let e = c .before .before .before .before .before .before .before in
+    let kind = c .before .before .before .kind in
+    (e .pre, stands-there (e .args .book .now) (e .args .at) (kind .result) 8 (omega arith) (kind .ensures) (c .if4 .taken))
 
 returns-4 : tie.Need-returns-4
-returns-4 c =
-    let e = c .before .before .before .before .before .before .before .before .before in
-    let a = e .args in
-    let payload = c .before .before .payload in
-    let if2 = c .before .before .before .before .if2 in
-    let kind = c .before .before .before .before .before .kind in
-    end-good (a .bands) (a .s) (a .book .now) (a .at) (omega arith) (kind .result) (kind .ensures) (if2 .taken) (payload .result) (payload .ensures) (c .before .if3 .left) (c .if4 .left)
+returns-4 c = search needs
 
-mul-part : tie.Need-mul-part
-mul-part c = search needs
-
-sub-part : tie.Need-sub-part
-sub-part c = search needs
-
-part-part-start : tie.Need-part-part-start
-part-part-start c = search needs
-
-part-part-end : tie.Need-part-part-end
-part-part-end c = search needs
-
-item-requires : tie.Need-item-requires
-item-requires c κs = search needs
-
-enum-known-sums : tie.Need-enum-known-sums
-enum-known-sums c = search needs
-
-add-t27 : tie.Need-add-t27
-add-t27 c =
-    let e = c .before .before .before .before .before .before .before .before .before .before in
-    let a = e .args in
-    let item = c .before .before .before .item in
-    let if2 = c .before .before .before .before .before .if2 in
-    let kind = c .before .before .before .before .before .before .kind in
-    omega (arith, next-within (a .bands) (a .s) (a .book .now) (a .at) (omega arith) (kind .result) (kind .ensures) (if2 .left) (item .result) (item .ensures) (c .before .sums .given .0 .0) (c .before .sums .given .0 .1 .0) (c .before .sums .given .1))
-
-enum-known-number : tie.Need-enum-known-number
-enum-known-number c = search needs
-
-add-t28 : tie.Need-add-t28
-add-t28 c =
-    let e = c .before .before .before .before .before .before .before .before .before .before in
-    let a = e .args in
-    let item = c .before .before .before .item in
-    let if2 = c .before .before .before .before .before .if2 in
-    let kind = c .before .before .before .before .before .before .kind in
-    omega (arith, place-within (a .bands) (a .s) (a .book .now) (a .at) (omega arith) (kind .result) (kind .ensures) (if2 .left) (item .result) (item .ensures) (c .before .number .given .0 .0) (c .before .number .given .0 .1 .0) (c .before .number .given .1))
+off-balance-at-requires : tie.Need-off-balance-at-requires
+off-balance-at-requires c κs =
+    let e = c .before .before .before .before .before .before .before .before in
+    let kind = c .before .before .before .before .kind in
+    (e .pre, stands-there (e .args .book .now) (e .args .at) (kind .result) 10 (omega arith) (kind .ensures) (c .if5 .taken))
 
 returns-5 : tie.Need-returns-5
-returns-5 c =
-    let e = c .before .before .before .before .before .before .before .before .before .before in
-    let a = e .args in
-    let item = c .before .before .before .item in
-    let if2 = c .before .before .before .before .before .if2 in
-    let kind = c .before .before .before .before .before .before .kind in
-    item-more (a .bands) (a .s) (a .book .now) (a .at) (omega arith) (kind .result) (kind .ensures) (if2 .left) (item .result) (item .ensures) (c .before .sums .given .0 .0) (c .before .sums .given .0 .1 .0) (c .before .sums .given .1)
+returns-5 c = search needs
+
+end-at-requires : tie.Need-end-at-requires
+end-at-requires c κs =
+    let e = c .before .before .before .before .before .before .before .before .before in
+    let kind = c .before .before .before .before .before .kind in
+    (e .pre, stands-there (e .args .book .now) (e .args .at) (kind .result) 15 (omega arith) (kind .ensures) (c .if6 .taken))
 
 returns-6 : tie.Need-returns-6
-returns-6 c =
-    let e = c .before .before .before .before .before .before .before .before .before .before in
-    let a = e .args in
-    let item = c .before .before .before .item in
-    let if2 = c .before .before .before .before .before .if2 in
-    let kind = c .before .before .before .before .before .before .kind in
-    item-halt (a .bands) (a .s) (a .book .now) (a .at) (omega arith) (kind .result) (kind .ensures) (if2 .left) (item .result) (item .ensures) (c .before .number .given .0 .0) (c .before .number .given .0 .1 .0) (c .before .number .given .1)
+returns-6 c = search needs
+
+returns-7 : tie.Need-returns-7
+returns-7 c =
+    let e = c .before .before .before .before .before .before .before .before .before in
+    let kind = c .before .before .before .before .before .kind in
+    (no-item (e .args .bands) (e .args .book .now) (e .args .s) (e .args .at) (e .pre) (omega arith) (kind .result) (kind .ensures) (c .before .before .before .before .if2 .left) (c .before .before .before .if3 .left) (c .before .before .if4 .left) (c .before .if5 .left) (c .if6 .left), tt)
 
 pub item-at-spec : {M : Type 1} → statement M
 item-at-spec =
@@ -122,22 +77,14 @@ item-at-spec =
     mul-kind
     shared-slice-read-kind
     kind-requires
-    mul-payload
-    shared-slice-read-payload
-    payload-requires
-    cast-if3
+    assets-at-requires
     returns-2
-    add-if4
+    set-at-requires
     returns-3
+    financing-at-requires
     returns-4
-    mul-part
-    sub-part
-    part-part-start
-    part-part-end
-    item-requires
-    enum-known-sums
-    add-t27
-    enum-known-number
-    add-t28
+    off-balance-at-requires
     returns-5
-    returns-6)
+    end-at-requires
+    returns-6
+    returns-7)

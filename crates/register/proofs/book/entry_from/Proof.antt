@@ -37,8 +37,8 @@ add-size-at-3 c = search needs
 size-at-requires-3 : tie.Need-size-at-requires-3
 size-at-requires-3 c κs = search needs
 
-less-requires : tie.Need-less-requires
-less-requires c κs = search needs
+short-of-requires : tie.Need-short-of-requires
+short-of-requires c κs = search needs
 
 returns : tie.Need-returns
 unfolding protectionAt
@@ -47,7 +47,7 @@ returns c =
     let field2 = c .before .before .before .before .field2 in
     let field = c .before .before .before .before .before .field in
     let word-at = c .before .before .before .before .before .before .word-at in
-    simp ((c .less .ensures), (size-at .ensures), (c .before .before .size-at2 .ensures), (c .before .size-at3 .ensures), (field .ensures), (field2 .ensures), (word-at .ensures))
+    simp ((c .short-of .ensures), (size-at .ensures), (c .before .before .size-at2 .ensures), (c .before .size-at3 .ensures), (field .ensures), (field2 .ensures), (word-at .ensures))
 
 pub entry-from-spec : {M : Type 1} → statement M
 entry-from-spec =
@@ -64,5 +64,5 @@ entry-from-spec =
     size-at-requires-2
     add-size-at-3
     size-at-requires-3
-    less-requires
+    short-of-requires
     returns)

@@ -13,12 +13,12 @@ returns : tie.Need-returns
 unfolding drawnDown
 returns c = ((c .before .unfit .ensures), simp (ne-eqb _ _ (λ e. (c .if1 .taken) ((c .before .unfit .ensures) ∙ e))))
 
-less-requires : tie.Need-less-requires
-less-requires c κs = search needs
+short-of-requires : tie.Need-short-of-requires
+short-of-requires c κs = search needs
 
 returns-2 : tie.Need-returns-2
 unfolding drawnDown
-returns-2 c = (sym (c .before .if1 .left) ∙ (c .before .before .unfit .ensures), simp (eq-eqb _ _ (sym (c .before .before .unfit .ensures) ∙ (c .before .if1 .left)), (c .less .ensures)))
+returns-2 c = (sym (c .before .if1 .left) ∙ (c .before .before .unfit .ensures), simp (eq-eqb _ _ (sym (c .before .before .unfit .ensures) ∙ (c .before .if1 .left)), (c .short-of .ensures)))
 
 pub drawn-down-spec : {M : Type 1} → statement M
-drawn-down-spec = tie.close (tie.spec unfit-requires returns less-requires returns-2)
+drawn-down-spec = tie.close (tie.spec unfit-requires returns short-of-requires returns-2)

@@ -42,7 +42,7 @@ use denote.Exit.{yes}
 use denote.Signature.{plain}
 use Rattle.rules.specs.declared.Entry.{Entry}
 use Rattle.rules.proofs.Entry.Laws as TE′
-use Rattle.register.specs.Scan.{loadedFrom}
+use Rattle.register.specs.Loading.{loadedFrom}
 use Rattle.register.proofs.Rows.{R, typed}
 use Rattle.register.proofs.Relend.{slice}
 use Rattle.register.proofs.Lent.{enters, mut-own, shr-own, mid, tests, less, less-wf}

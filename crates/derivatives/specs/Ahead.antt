@@ -1,0 +1,156 @@
+-- A derivative set that is being read, and what lies ahead in it: how it ends, and the draws of its covers up to there. The words are those
+-- of the part of the book that begins at the set's head. Assumes nothing.
+use Prim.Native.Nat.{ℕ, zero, suc, _+_, _-_, _*_, _^_, _≤_, _<_}
+use mathlib.Core.Path.{_≡_}
+use mathlib.Core.Bool.{true, false, cond}
+use mathlib.Core.List.{List, [], _∷_, _++_}
+use lib.ListN.{length}
+use Rattle.rules.specs.declared.Bands.{Bands}
+use Rattle.rules.specs.declared.Draw.{Draw}
+use Rattle.rules.specs.Word.{word, kindOf, fieldOf, sizeOf}
+use Rattle.rules.specs.Book.{Cover, Member, total}
+use Rattle.rules.specs.Faults.{coverFault, derivativeSetFault}
+use Rattle.rules.specs.Run.{Run, runFrom}
+use Rattle.rules.specs.Read.{lacks, coverTurn, writtenAt, memberTurn}
+use Rattle.rules.specs.Register.{drawsFrom, drawsOf}
+use Rattle.derivatives.specs.declared.tally.Tally.{Tally}
+use Rattle.derivatives.specs.declared.covers.OpenCredit.{OpenCredit}
+use Rattle.derivatives.specs.declared.set.OpenSet.{OpenSet}
+use Rattle.derivatives.specs.declared.set.Weighed.{Weighed}
+use Rattle.derivatives.specs.declared.set.Weighed.the-variants.{Covering, Whole, Refused}
+use Rattle.derivatives.specs.declared.members.MemberStep.{MemberStep}
+use Rattle.derivatives.specs.declared.members.MemberStep.the-variants.{Next, Drawing, End, Stop}
+use Rattle.derivatives.specs.Gathered.{noTally, plusMembers, plusWritten}
+
+-- ---- what lies ahead
+
+-- all members, with their tally and the place behind them; or the first fault
+pub data Ending : Type 0 where
+  gathered : Tally → (place : ℕ) → Ending
+  broken : (number place : ℕ) → Ending
+
+pub record SetAhead : Type 0 where
+  pub ending : Ending
+  pub draws : List Draw
+
+abbrev pub endsWith : Ending → SetAhead
+endsWith e = record { ending = e; draws = [] }
+
+abbrev pub after : List Draw → SetAhead → SetAhead
+after ds a = record { ending = a .ending; draws = ds ++ a .draws }
+
+abbrev pub endingBy : (number : ℕ) → Tally → (place : ℕ) → Ending
+endingBy zero t place = gathered t place
+endingBy (suc number) t place = broken (suc number) place
+
+-- from a member on: the run of the members, on top of a tally. The set begins at a place of the book.
+abbrev pub membersAhead : Bands → (begin : ℕ) → Tally → Run Member → SetAhead
+membersAhead bands begin t r = record { ending = endingBy (r .number) (plusMembers bands t (r .records)) (r .place); draws = drawsOf begin (r .records) }
+
+unfoldable pub fromMember : Bands → List ℕ → (begin : ℕ) → Tally → (at : ℕ) → SetAhead
+fromMember bands ws begin t at = membersAhead bands begin t (runFrom (memberTurn ws) (suc (length ws)) at)
+
+-- from a cover on: the run of the open credit's covers, then the members
+abbrev pub tallyWith : List ℕ → Tally → OpenCredit → (more : ℕ) → Tally
+tallyWith ws t c more = plusWritten t (writtenAt ws (c .place) []) (c .covered + more)
+
+abbrev pub coversBy : Bands → List ℕ → (begin : ℕ) → Tally → OpenCredit → (number : ℕ) → List Cover → (place : ℕ) → SetAhead
+coversBy bands ws begin t c zero cs place =
+    after (drawsFrom begin (c .room) (writtenAt ws (c .place) []) cs) (fromMember bands ws begin (tallyWith ws t c (total (λ (x : Cover). x .amount) cs)) place)
+coversBy bands ws begin t c (suc number) cs place = after (drawsFrom begin (c .room) (writtenAt ws (c .place) []) cs) (endsWith (broken (suc number) place))
+
+abbrev pub coversAhead : Bands → List ℕ → (begin : ℕ) → Tally → OpenCredit → Run Cover → SetAhead
+coversAhead bands ws begin t c r = coversBy bands ws begin t c (r .number) (r .records) (r .place)
+
+unfoldable pub fromCover : Bands → List ℕ → (begin : ℕ) → Tally → OpenCredit → (at : ℕ) → SetAhead
+fromCover bands ws begin t c at = coversAhead bands ws begin t c (runFrom (coverTurn ws) (suc (length ws)) at)
+
+-- from where a set that is being read stands
+unfoldable pub setAhead : Bands → List ℕ → (begin : ℕ) → OpenSet → SetAhead
+setAhead bands ws begin o = cond (o .credit .allowed) (fromCover bands ws begin (o .tally) (o .credit) (o .at)) (fromMember bands ws begin (o .tally) (o .at))
+
+-- ---- a cover of the open credit
+
+abbrev pub noCredit : OpenCredit
+noCredit = record { allowed = false; place = 0; covered = 0; room = 0 }
+
+unfoldable pub coverCause : List ℕ → ℕ → ℕ
+coverCause ws at = cond (lacks 1 ws at) 6 (coverFault (word ws at) (word ws (at + 1)))
+
+abbrev pub drawHere : List ℕ → (begin at : ℕ) → OpenCredit → Draw
+drawHere ws begin at c = record {
+  at = begin + at;
+  entity = fieldOf 0 16 (word ws (c .place));
+  rank = fieldOf 16 4 (word ws (c .place));
+  days = sizeOf (word ws (c .place + 4));
+  room = c .room;
+  protection = fieldOf 0 12 (word ws at);
+  amount = sizeOf (word ws (at + 1));
+}
+
+abbrev pub plusCover : OpenCredit → (amount : ℕ) → OpenCredit
+plusCover c amount = record { allowed = true; place = c .place; covered = c .covered + amount; room = c .room - amount }
+
+-- ---- the head of a set
+
+unfoldable pub setCause : List ℕ → ℕ
+setCause ws = cond (lacks 3 ws 0) 6 (derivativeSetFault (word ws 0) (word ws 1) (word ws 2) (word ws 3))
+
+-- its members stand behind its three amounts
+abbrev pub openedSet : OpenSet
+openedSet = record { at = 4; tally = noTally; credit = noCredit }
+
+-- ---- how large it all is: 2 ^ 41 for each word behind the head
+
+pub record SmallTally (t : Tally) (at : ℕ) : Type 0 where
+  pub weight : 2000 * t .gains + 2 * t .gross + 1000 * t .written + 1000 * t .covered + 2 ^ 41 * 4 ≤ 2 ^ 41 * at
+  pub losses : t .losses ≤ 2 ^ 27 * at
+  pub uncovered : t .uncovered ≤ t .gross
+
+-- a credit whose record stands before a place, with no more loss than notional
+pub record OpenIn (ws : List ℕ) (c : OpenCredit) (at : ℕ) : Type 0 where
+  pub before : c .place + 6 ≤ at
+  pub under : sizeOf (word ws (c .place + 3)) ≤ sizeOf (word ws (c .place + 2))
+  pub covered : c .covered + 2 ^ 27 * (c .place + 6) ≤ 2 ^ 27 * at
+
+-- up to where the tally has gathered
+abbrev pub gatheredTo : OpenSet → ℕ
+gatheredTo o = cond (o .credit .allowed) (o .credit .place) (o .at)
+
+pub record SoundSet (ws : List ℕ) (begin : ℕ) (o : OpenSet) : Type 0 where
+  pub short : begin + length ws ≤ 2 ^ 20
+  pub within : o .at ≤ length ws
+  pub small : SmallTally (o .tally) (gatheredTo o)
+  pub credit : o .credit .allowed ≡ true → OpenIn ws (o .credit) (o .at)
+
+-- where a member is due, with a tally of all before
+pub record Standing (ws : List ℕ) (begin at : ℕ) (t : Tally) : Type 0 where
+  pub short : begin + length ws ≤ 2 ^ 20
+  pub within : at ≤ length ws
+  pub small : SmallTally t at
+
+-- ---- the answers
+
+-- one step: a member more, a cover to be drawn, no member, or a fault
+abbrev pub stepAhead : Bands → List ℕ → (begin at : ℕ) → MemberStep → SetAhead
+stepAhead bands ws begin at (Next o) = setAhead bands ws begin o
+stepAhead bands ws begin at (Drawing d o) = after (d ∷ []) (setAhead bands ws begin o)
+stepAhead bands ws begin at (End t) = endsWith (gathered t at)
+stepAhead bands ws begin at (Stop number place) = endsWith (broken number place)
+
+abbrev pub SoundStep : List ℕ → (begin at : ℕ) → MemberStep → Type 0
+SoundStep ws begin at (Next o) = SoundSet ws begin o × (at < o .at)
+SoundStep ws begin at (Drawing d o) = SoundSet ws begin o
+SoundStep ws begin at (End t) = SmallTally t at
+SoundStep ws begin at (Stop number place) = Unit {0}
+
+-- the next cover, or the end
+abbrev pub weighedAhead : Bands → List ℕ → (begin : ℕ) → Weighed → SetAhead
+weighedAhead bands ws begin (Covering d o) = after (d ∷ []) (setAhead bands ws begin o)
+weighedAhead bands ws begin (Whole t place) = endsWith (gathered t place)
+weighedAhead bands ws begin (Refused number place) = endsWith (broken number place)
+
+abbrev pub SoundWeighed : List ℕ → (begin : ℕ) → Weighed → Type 0
+SoundWeighed ws begin (Covering d o) = SoundSet ws begin o
+SoundWeighed ws begin (Whole t place) = SmallTally t place × (place ≤ length ws)
+SoundWeighed ws begin (Refused number place) = Unit {0}

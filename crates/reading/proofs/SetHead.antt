@@ -1,0 +1,51 @@
+-- The head of a derivative set: what lies ahead of it is what lies ahead inside the set. Assumes nothing.
+use Prim.Native.Nat.{ℕ, zero, suc, _+_, _≤_}
+use mathlib.Core.Path.{_≡_, sym, _∙_, ap}
+use mathlib.Core.List.{List}
+use native.Mathlib.Omega.{arith}
+use lib.ListN.{length, drop, length-drop}
+use Rattle.rules.specs.declared.Bands.{Bands}
+use Rattle.rules.specs.declared.Sums.{Sums}
+use Rattle.rules.specs.Book.{Member}
+use Rattle.rules.specs.Run.{Run, runFrom}
+use Rattle.rules.specs.Read.{memberTurn, derivativeSetAt, withMembers, derivativeSetTurn, placed, itemTurn}
+use Rattle.rules.specs.Register.{drawsOf}
+use Rattle.theorems.proofs.Records.{lacks-room}
+use Rattle.derivatives.specs.Gathered.{noTally}
+use Rattle.derivatives.specs.Ahead.{membersAhead, fromMember, setAhead, setCause, openedSet, SoundSet}
+use Rattle.derivatives.proofs.Entry.{item-is}
+use Rattle.reading.specs.Ahead.{after, setBehind, fromItem, fromSet}
+use Rattle.reading.proofs.AheadLaws.{ahead-some, ahead-broken}
+use Rattle.reading.proofs.ItemLaws.{partAt, from-is, Met, kind-here, turn-here, of-kind-4, record-good}
+
+-- a set whose head is good: its members, and then the items
+module _ (bands : Bands) (ws : List ℕ) (s : Sums) (at : ℕ) (w : at ≤ length ws) where
+  abbrev part : List ℕ
+  part = drop at ws
+
+  members-then : (records : List Member) (number place : ℕ)
+      → itemTurn ws at ≡ placed at (withMembers part (record { records = records; number = number; place = place }))
+      → fromItem bands ws s at ≡ setBehind bands ws s at (membersAhead bands at noTally (record { records = records; number = number; place = place }))
+  unfolding derivativeSetAt
+  members-then records zero place e =
+      ahead-some bands ws s at w _ (at + place) e
+      ∙ ap (λ (t : Sums). after (drawsOf at records) (fromItem bands ws t (at + place))) (item-is bands s part records)
+  members-then records (suc number) place e = ahead-broken bands ws s at w _ number (at + place) e
+
+pub set-opens : (bands : Bands) {ws : List ℕ} {s : Sums} {at : ℕ} → Met ws s at 4 → (cause : ℕ) → cause ≡ setCause (partAt ws at) → cause ≡ 0
+    → (fromItem bands ws s at ≡ fromSet bands ws s at openedSet) × SoundSet (drop at ws) at openedSet
+unfolding setCause derivativeSetTurn fromSet setAhead fromMember
+set-opens bands {ws} {s} {at} m cause q e =
+    let part = drop at ws in
+    let r : Run Member = runFrom (memberTurn part) (suc (length part)) 4 in
+    let g = record-good part 4 (kind-here m) _ (λ (next : ℕ). withMembers part (runFrom (memberTurn part) (suc (length part)) next)) (ap setCause (sym (from-is ws at)) ∙ sym q ∙ e) in
+    let n = length-drop at ws in
+    let l = lacks-room 3 part 0 (g .0) (omega (arith, m .here)) in (
+      members-then bands ws s at (m .fair .within) (r .records) (r .number) (r .place) (turn-here m (λ z. omega arith) ∙ ap (placed at) (of-kind-4 part (kind-here m) ∙ g .1)),
+      record {
+        short = omega (arith, m .fair .short, m .here);
+        within = omega arith;
+        small = record { weight = omega arith; losses = omega arith; uncovered = omega arith };
+        credit = λ z. let n : _≡_ {A = ℕ} 0 1 = cc in absurd (omega arith);
+      },
+    )

@@ -1,0 +1,170 @@
+-- A book that is being read, and what lies ahead in it: what the reading comes to, and the draws of all covers up to there.
+-- Assumes nothing.
+use Prim.Native.Nat.{ℕ, suc, _+_, _-_, _*_, _^_, _≤_, _<_}
+use mathlib.Core.Path.{_≡_}
+use mathlib.Core.Bool.{true, false, cond}
+use mathlib.Core.List.{List, [], _∷_, _++_}
+use lib.Dec.{eqb}
+use lib.ListN.{length, drop}
+use Rattle.rules.specs.declared.Bands.{Bands}
+use Rattle.rules.specs.declared.Draw.{Draw}
+use Rattle.rules.specs.declared.Sums.{Sums}
+use Rattle.rules.specs.Word.{word}
+use Rattle.rules.specs.Book.{Placed}
+use Rattle.rules.specs.Run.{Run, runFrom}
+use Rattle.rules.specs.Read.{headOf, itemTurn, itemsOf}
+use Rattle.rules.specs.Register.{drawsOver}
+use Rattle.rules.specs.Rows.{row1, row2, row4, row5, row6, row7, row8, row9, row10, row12, row13, row14, row15, row17, row18, sumOver}
+use Rattle.derivatives.specs.declared.set.OpenSet.{OpenSet}
+use Rattle.derivatives.specs.Gathered.{plusSet, setOf}
+use Rattle.derivatives.specs.Ahead.{Ending, gathered, broken, SetAhead, setAhead, openedSet, SoundSet}
+use Rattle.reading.specs.declared.Reading.{Reading}
+use Rattle.reading.specs.declared.Reading.the-variants.{Whole, Fault}
+use Rattle.reading.specs.declared.cursor.Cursor.{Cursor}
+use Rattle.reading.specs.declared.cursor.Found.{Found}
+use Rattle.reading.specs.declared.items.ItemAnswer.{ItemAnswer}
+use Rattle.reading.specs.declared.items.ItemAnswer.the-variants.{More, Set, End, Halt}
+use Rattle.reading.specs.declared.steps.Step.{Step}
+use Rattle.reading.specs.declared.steps.Step.the-variants.{On, Cover, Ended}
+use Rattle.reading.specs.Steps.{readingOf, Fair}
+
+-- ---- what lies ahead
+
+pub record Ahead : Type 0 where
+  pub reading : Reading
+  pub draws : List Draw
+
+abbrev pub endsAt : Reading → Ahead
+endsAt r = record { reading = r; draws = [] }
+
+abbrev pub after : List Draw → Ahead → Ahead
+after ds a = record { reading = a .reading; draws = ds ++ a .draws }
+
+-- from an item on: the run of the items, on top of some sums
+abbrev pub plusAll : Bands → Sums → List Placed → Sums
+plusAll bands s ps = record {
+  assets = s .assets + sumOver (row1 bands) ps;
+  deducted = s .deducted + sumOver (row2 bands) ps;
+  replacement = s .replacement + sumOver (row4 bands) ps;
+  weighted = s .weighted + sumOver (row5 bands) ps;
+  posted = s .posted + sumOver (row6 bands) ps;
+  offset = s .offset + sumOver (row7 bands) ps;
+  exempt = s .exempt + sumOver (row8 bands) ps;
+  written = s .written + sumOver (row9 bands) ps;
+  covered = s .covered + sumOver (row10 bands) ps;
+  financed = s .financed + sumOver row12 ps;
+  netted = s .netted + sumOver row13 ps;
+  principal = s .principal + sumOver row14 ps;
+  agent = s .agent + sumOver row15 ps;
+  committed = s .committed + sumOver row17 ps;
+  unconverted = s .unconverted + sumOver row18 ps;
+}
+
+abbrev pub itemsAhead : Bands → Sums → Run Placed → Ahead
+itemsAhead bands s r = record {
+  reading = cond (eqb (r .number) 0) (Whole (plusAll bands s (r .records)) (r .place)) (Fault (r .number) (r .place));
+  draws = drawsOver (r .records);
+}
+
+unfoldable pub fromItem : Bands → List ℕ → Sums → (at : ℕ) → Ahead
+fromItem bands ws s at = itemsAhead bands s (runFrom (itemTurn ws) (suc (length ws)) at)
+
+-- from inside a derivative set that begins at a place: what lies ahead in the set, then the items
+abbrev pub setThen : Bands → List ℕ → Sums → (begin : ℕ) → Ending → Ahead
+setThen bands ws s begin (gathered t place) =
+    fromItem bands ws (plusSet s (setOf (word (drop begin ws) 0) (word (drop begin ws) 1) (word (drop begin ws) 2) (word (drop begin ws) 3) []) t) (begin + place)
+setThen bands ws s begin (broken number place) = endsAt (Fault number (begin + place))
+
+abbrev pub setBehind : Bands → List ℕ → Sums → (begin : ℕ) → SetAhead → Ahead
+setBehind bands ws s begin a = after (a .draws) (setThen bands ws s begin (a .ending))
+
+unfoldable pub fromSet : Bands → List ℕ → Sums → (begin : ℕ) → OpenSet → Ahead
+fromSet bands ws s begin o = setBehind bands ws s begin (setAhead bands (drop begin ws) begin o)
+
+-- from the first record behind the head on
+unfoldable pub recordsAhead : List ℕ → Ahead
+recordsAhead ws = record { reading = readingOf (headOf ws .bands) (itemsOf ws); draws = drawsOver (itemsOf ws .records) }
+
+-- from where a book that is being read stands
+unfoldable pub ahead : List ℕ → Cursor → Ahead
+ahead ws c =
+    cond (c .begun)
+    (cond (c .inside) (fromSet (headOf ws .bands) ws (c .sums) (c .at) (c .set)) (fromItem (headOf ws .bands) ws (c .sums) (c .at)))
+    (recordsAhead ws)
+
+-- ---- cursors
+
+abbrev pub noSums : Sums
+noSums = record {
+  assets = 0;
+  deducted = 0;
+  replacement = 0;
+  weighted = 0;
+  posted = 0;
+  offset = 0;
+  exempt = 0;
+  written = 0;
+  covered = 0;
+  financed = 0;
+  netted = 0;
+  principal = 0;
+  agent = 0;
+  committed = 0;
+  unconverted = 0;
+}
+
+abbrev pub startCursor : Cursor
+startCursor = record { begun = false; inside = false; at = 2; sums = noSums; set = openedSet }
+
+-- a cursor of a book: sums and tally are as large as its words allow
+pub record Sound (ws : List ℕ) (c : Cursor) : Type 0 where
+  pub words : 2 ≤ length ws
+  pub short : length ws ≤ 2 ^ 20
+  pub fair : c .begun ≡ true → Fair ws (c .sums) (c .at)
+  pub set : c .begun ≡ true → c .inside ≡ true → SoundSet (drop (c .at) ws) (c .at) (c .set)
+
+-- how much is left to read: a step reads words, or goes into a set, or past the protections
+abbrev pub left : List ℕ → Cursor → ℕ
+left ws c = cond (c .begun) (2 * (length ws - c .at) + cond (c .inside) 0 1) (2 * length ws + 2)
+
+-- ---- the answers
+
+-- items without a fault lead from a place and its sums to one further on: what lies ahead is the same
+pub record Onward (bands : Bands) (ws : List ℕ) (s : Sums) (from : ℕ) (sums : Sums) (next : ℕ) : Type 0 where
+  pub same : fromItem bands ws s from ≡ fromItem bands ws sums next
+  pub fair : Fair ws sums next
+  pub further : from < next
+
+-- where an item is due: items, and the sums with them; a derivative set; the end word; or a fault
+abbrev pub answerAhead : Bands → List ℕ → Sums → (at : ℕ) → ItemAnswer → Ahead
+answerAhead bands ws s at (More sums next) = fromItem bands ws sums next
+answerAhead bands ws s at Set = fromSet bands ws s at openedSet
+answerAhead bands ws s at End = endsAt (Whole s at)
+answerAhead bands ws s at (Halt number place) = endsAt (Fault number place)
+
+abbrev pub SoundAnswer : List ℕ → (at : ℕ) → ItemAnswer → Type 0
+SoundAnswer ws at (More sums next) = Fair ws sums next × (at < next)
+SoundAnswer ws at Set = SoundSet (drop at ws) at openedSet
+SoundAnswer ws at End = Unit {0}
+SoundAnswer ws at (Halt number place) = Unit {0}
+
+-- one step of the reading
+abbrev pub stepAhead : List ℕ → Step → Ahead
+stepAhead ws (On c) = ahead ws c
+stepAhead ws (Cover d c) = after (d ∷ []) (ahead ws c)
+stepAhead ws (Ended r) = endsAt r
+
+abbrev pub SoundStep : List ℕ → Cursor → Step → Type 0
+SoundStep ws c (On next) = Sound ws next × (left ws next < left ws c)
+SoundStep ws c (Cover d next) = Sound ws next
+SoundStep ws c (Ended r) = Unit {0}
+
+-- the next cover, or the end
+abbrev pub noDraw : Draw
+noDraw = record { at = 0; entity = 0; rank = 0; days = 0; room = 0; protection = 0; amount = 0 }
+
+abbrev pub foundAhead : List ℕ → Found → Ahead
+foundAhead ws f = cond (f .some) (after (f .draw ∷ []) (ahead ws (f .cursor))) (endsAt (f .reading))
+
+abbrev pub SoundFound : List ℕ → Found → Type 0
+SoundFound ws f = f .some ≡ true → Sound ws (f .cursor)

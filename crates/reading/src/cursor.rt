@@ -1,0 +1,110 @@
+// Where the reading of a book stands, and the next cover from there on.
+use crate::Reading;
+use crate::head::bands_of;
+use crate::steps::Step;
+use crate::steps::next_step;
+use derivatives::set::OpenSet;
+use derivatives::set::opened;
+use rules::Draw;
+use rules::Sums;
+ghost use mathlib.Core.Path.{_≡_};
+ghost use denote.Ref.{now};
+ghost use Rattle.reading.specs.Ahead.{Sound, SoundFound, ahead, foundAhead, noDraw, noSums, startCursor};
+
+// Before the protections; where an item is due, with the sums of those before; or inside a derivative set, whose head stands there.
+pub struct Cursor {
+    pub begun: bool,
+    pub inside: bool,
+    pub at: usize,
+    pub sums: Sums,
+    pub set: OpenSet,
+}
+
+// Whether there is a further cover; if so the cover as a draw, and the cursor behind it, else what the reading comes to.
+pub struct Found {
+    pub some: bool,
+    pub draw: Draw,
+    pub cursor: Cursor,
+    pub reading: Reading,
+}
+
+pub fn no_sums() -> Sums
+    ensures { λ r. ⌜ r ≡ noSums ⌝ }
+{
+    Sums {
+        assets: 0,
+        deducted: 0,
+        replacement: 0,
+        weighted: 0,
+        posted: 0,
+        offset: 0,
+        exempt: 0,
+        written: 0,
+        covered: 0,
+        financed: 0,
+        netted: 0,
+        principal: 0,
+        agent: 0,
+        committed: 0,
+        unconverted: 0,
+    }
+}
+
+// Before the first record behind the head.
+pub fn start() -> Cursor
+    ensures { λ r. ⌜ r ≡ startCursor ⌝ }
+{
+    Cursor {
+        begun: false,
+        inside: false,
+        at: 2,
+        sums: no_sums(),
+        set: opened(),
+    }
+}
+
+fn no_draw() -> Draw
+    ensures { λ r. ⌜ r ≡ noDraw ⌝ }
+{
+    Draw {
+        at: 0,
+        entity: 0,
+        rank: 0,
+        days: 0,
+        room: 0,
+        protection: 0,
+        amount: 0,
+    }
+}
+
+// The first cover from a cursor on.
+pub fn next_draw(book: &[u32], from: Cursor) -> Found
+    requires { ⌜ Sound (now book) from ⌝ }
+    ensures { λ r. ⌜ (ahead (now (book .entry)) from ≡ foundAhead (now (book .entry)) r) × SoundFound (now (book .entry)) r ⌝ }
+{
+    let bands = bands_of(book);
+    let mut c = from;
+    loop {
+        match next_step(book, c, bands) {
+            Step::On(next) => {
+                c = next;
+            }
+            Step::Cover(draw, next) => {
+                return Found {
+                    some: true,
+                    draw: draw,
+                    cursor: next,
+                    reading: Reading::Fault(0, 0),
+                };
+            }
+            Step::Ended(reading) => {
+                return Found {
+                    some: false,
+                    draw: no_draw(),
+                    cursor: c,
+                    reading: reading,
+                };
+            }
+        }
+    }
+}

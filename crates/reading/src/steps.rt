@@ -1,0 +1,116 @@
+// One step of the reading: the protections, what stands where an item is due, or the members of a derivative set up to the next cover.
+use crate::Reading;
+use crate::cursor::Cursor;
+use crate::cursor::no_sums;
+use crate::items::ItemAnswer;
+use crate::items::item_at;
+use crate::protections::Protections;
+use crate::protections::read_protections;
+use derivatives::rows::with_set;
+use derivatives::set::Weighed;
+use derivatives::set::opened;
+use derivatives::set::weigh;
+use rules::Bands;
+use rules::Draw;
+use words::parts::payload;
+ghost use mathlib.Core.Path.{_≡_};
+ghost use mathlib.Core.Bool.{true, false};
+ghost use denote.Ref.{now};
+ghost use Rattle.rules.specs.Read.{headOf};
+ghost use Rattle.reading.specs.Ahead.{Sound, SoundStep, ahead, stepAhead};
+
+// The cursor further on; the next cover, and the cursor behind it; or what the reading comes to.
+pub enum Step {
+    On(Cursor),
+    Cover(Draw, Cursor),
+    Ended(Reading),
+}
+
+pub fn next_step(book: &[u32], c: Cursor, bands: Bands) -> Step
+    requires { ⌜ Sound (now book) c × (bands ≡ headOf (now book) .bands) ⌝ }
+    ensures { λ r. ⌜ (ahead (now (book .entry)) c ≡ stepAhead (now (book .entry)) r) × SoundStep (now (book .entry)) c r ⌝ }
+{
+    if !c.begun {
+        return protections_step(book, c);
+    }
+    if c.inside {
+        return set_step(book, c, bands);
+    }
+    item_step(book, c, bands)
+}
+
+// "exactly b of them after the head"
+fn protections_step(book: &[u32], c: Cursor) -> Step
+    requires { ⌜ Sound (now book) c × (c .begun ≡ false) ⌝ }
+    ensures { λ r. ⌜ (ahead (now (book .entry)) c ≡ stepAhead (now (book .entry)) r) × SoundStep (now (book .entry)) c r ⌝ }
+{
+    let set = c.set;
+    match read_protections(book, payload(book[0]) as usize) {
+        Protections::Wrong(number, place) => Step::Ended(Reading::Fault(number, place)),
+        Protections::Upto(at) => Step::On(Cursor {
+            begun: true,
+            inside: false,
+            at: at,
+            sums: no_sums(),
+            set: set,
+        }),
+    }
+}
+
+// The set is read on its part of the book, from its head on. Outside of a set the last one stays in the cursor, where nobody looks at it.
+fn set_step(book: &[u32], c: Cursor, bands: Bands) -> Step
+    requires { ⌜ Sound (now book) c × ((c .begun ≡ true) × ((c .inside ≡ true) × (bands ≡ headOf (now book) .bands))) ⌝ }
+    ensures { λ r. ⌜ (ahead (now (book .entry)) c ≡ stepAhead (now (book .entry)) r) × SoundStep (now (book .entry)) c r ⌝ }
+{
+    let at = c.at;
+    let sums = c.sums;
+    let set = c.set;
+    let part = &book[at..];
+    match weigh(part, at, set, bands) {
+        Weighed::Covering(draw, next) => Step::Cover(
+            draw,
+            Cursor {
+                begun: true,
+                inside: true,
+                at: at,
+                sums: sums,
+                set: next,
+            },
+        ),
+        Weighed::Whole(t, place) => Step::On(Cursor {
+            begun: true,
+            inside: false,
+            at: at + place,
+            sums: with_set(sums, part[0], part[1], part[2], part[3], t),
+            set: set,
+        }),
+        Weighed::Refused(number, place) => Step::Ended(Reading::Fault(number, at + place)),
+    }
+}
+
+fn item_step(book: &[u32], c: Cursor, bands: Bands) -> Step
+    requires { ⌜ Sound (now book) c × ((c .begun ≡ true) × ((c .inside ≡ false) × (bands ≡ headOf (now book) .bands))) ⌝ }
+    ensures { λ r. ⌜ (ahead (now (book .entry)) c ≡ stepAhead (now (book .entry)) r) × SoundStep (now (book .entry)) c r ⌝ }
+{
+    let at = c.at;
+    let sums = c.sums;
+    let set = c.set;
+    match item_at(book, at, sums, bands) {
+        ItemAnswer::More(more, next) => Step::On(Cursor {
+            begun: true,
+            inside: false,
+            at: next,
+            sums: more,
+            set: set,
+        }),
+        ItemAnswer::Set => Step::On(Cursor {
+            begun: true,
+            inside: true,
+            at: at,
+            sums: sums,
+            set: opened(),
+        }),
+        ItemAnswer::End => Step::Ended(Reading::Whole(sums, at)),
+        ItemAnswer::Halt(number, place) => Step::Ended(Reading::Fault(number, place)),
+    }
+}
