@@ -80,11 +80,11 @@ module _ {ws : List ℕ} {c : Cursor} (so : Sound ws c) (b : c .begun ≡ true) 
   told : ahead ws c ≡ answerAhead (headOf ws .bands) ws (c .sums) (c .at) r
   told = ahead-item ws c b i ∙ rw bq at (q .0)
 
-  pub step-more : (sums : Sums) (next : ℕ) → r ≡ More sums next → Right ws c (On (itemCursor next sums (c .set)))
+  pub step-more : (sums : Sums) (next : ℕ) → r ≡ More sums next → (o : OpenSet) → Right ws c (On (itemCursor next sums o))
   unfolding ahead
-  step-more sums next e =
+  step-more sums next e o =
       let f : Fair ws sums next × (c .at < next) = rw e at (q .1) in
-      (rw e at told, (sound-item so (c .set) (f .0), omega (arith, left-item ws c b i, f .0 .within, f .1)))
+      (rw e at told, (sound-item so o (f .0), omega (arith, left-item ws c b i, f .0 .within, f .1)))
 
   pub step-set : r ≡ Set → (o : OpenSet) → o ≡ openedSet → Right ws c (On (setCursor (c .at) (c .sums) o))
   unfolding ahead

@@ -60,14 +60,14 @@ module _ {ws : List ℕ} {c : Cursor} (so : Sound ws c) (b : c .begun ≡ true) 
     set-roomy = (roomy (so .fair b), weighable (tally-there .0) (omega (arith, set-there .2, so .short)))
 
     pub step-whole : (s : Sums) → s ≡ plusSet (c .sums) (setOf (word (partAt ws (c .at)) 0) (word (partAt ws (c .at)) 1) (word (partAt ws (c .at)) 2) (word (partAt ws (c .at)) 3) []) t
-        → Right ws c (On (itemCursor (c .at + place) s (c .set)))
+        → (o : OpenSet) → Right ws c (On (itemCursor (c .at + place) s o))
     unfolding ahead
-    step-whole s sq =
+    step-whole s sq o =
         let p = partAt ws (c .at) in
         rw sq (
           rw (e, ← from-is ws (c .at)) at told,
           (
-            sound-item so (c .set) (fair-with-set (so .fair b) (word p 0) (word p 1) (word p 2) (word p 3) t place (tally-there .0) (set-there .2)),
+            sound-item so o (fair-with-set (so .fair b) (word p 0) (word p 1) (word p 2) (word p 3) t place (tally-there .0) (set-there .2)),
             omega (arith, left-set ws c b i, set-there .0, set-there .2),
           ),
         )

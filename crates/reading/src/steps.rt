@@ -44,7 +44,6 @@ fn protections_step(book: &[u32], c: Cursor) -> Step
     requires { ⌜ Sound (now book) c × (c .begun ≡ false) ⌝ }
     ensures { λ r. ⌜ (ahead (now (book .entry)) c ≡ stepAhead (now (book .entry)) r) × SoundStep (now (book .entry)) c r ⌝ }
 {
-    let set = c.set;
     match read_protections(book, payload(book[0]) as usize) {
         Protections::Wrong(number, place) => Step::Ended(Reading::Fault(number, place)),
         Protections::Upto(at) => Step::On(Cursor {
@@ -52,12 +51,12 @@ fn protections_step(book: &[u32], c: Cursor) -> Step
             inside: false,
             at: at,
             sums: no_sums(),
-            set: set,
+            set: opened(),
         }),
     }
 }
 
-// The set is read on its part of the book, from its head on. Outside of a set the last one stays in the cursor, where nobody looks at it.
+// The set is read on its part of the book, from its head on.
 fn set_step(book: &[u32], c: Cursor, bands: Bands) -> Step
     requires { ⌜ Sound (now book) c × ((c .begun ≡ true) × ((c .inside ≡ true) × (bands ≡ headOf (now book) .bands))) ⌝ }
     ensures { λ r. ⌜ (ahead (now (book .entry)) c ≡ stepAhead (now (book .entry)) r) × SoundStep (now (book .entry)) c r ⌝ }
@@ -82,7 +81,7 @@ fn set_step(book: &[u32], c: Cursor, bands: Bands) -> Step
             inside: false,
             at: at + place,
             sums: with_set(sums, part[0], part[1], part[2], part[3], t),
-            set: set,
+            set: opened(),
         }),
         Weighed::Refused(number, place) => Step::Ended(Reading::Fault(number, at + place)),
     }
@@ -94,14 +93,13 @@ fn item_step(book: &[u32], c: Cursor, bands: Bands) -> Step
 {
     let at = c.at;
     let sums = c.sums;
-    let set = c.set;
     match item_at(book, at, sums, bands) {
         ItemAnswer::More(more, next) => Step::On(Cursor {
             begun: true,
             inside: false,
             at: next,
             sums: more,
-            set: set,
+            set: opened(),
         }),
         ItemAnswer::Set => Step::On(Cursor {
             begun: true,

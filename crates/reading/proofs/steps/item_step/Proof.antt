@@ -4,16 +4,19 @@ use Rattle.reading.proofs.steps.item_step.Statement.{statement}
 use Rattle.reading.proofs.steps.item_step.Tie as tie
 
 item-at-requires : tie.Need-item-at-requires
-item-at-requires c κs = c .before .before .before .pre .0 .fair (c .before .before .before .pre .1 .0)
+item-at-requires c κs = c .before .before .pre .0 .fair (c .before .before .pre .1 .0)
 
 enum-known-more : tie.Need-enum-known-more
 enum-known-more c = search needs
 
+opened-requires : tie.Need-opened-requires
+opened-requires c κs = search needs
+
 enum-told : tie.Need-enum-told
 enum-told c = search needs
 
-opened-requires : tie.Need-opened-requires
-opened-requires c κs = search needs
+opened-requires-2 : tie.Need-opened-requires-2
+opened-requires-2 c κs = search needs
 
 enum-told-2 : tie.Need-enum-told-2
 enum-told-2 c = search needs
@@ -24,25 +27,25 @@ enum-known-number c = search needs
 returns : tie.Need-returns
 returns c =
     let e = c .before .before .before .before .before .before .before in
-    let a = c .before .before .before .item-at in
-    let g = c .before .more .given in
-    step-more (e .pre .0) (e .pre .1 .0) (e .pre .1 .1 .0) (e .pre .1 .1 .1) (a .result) (a .ensures) (g .0 .0) (g .0 .1 .0) (g .1)
+    let a = c .before .before .before .before .item-at in
+    let g = c .before .before .more .given in
+    step-more (e .pre .0) (e .pre .1 .0) (e .pre .1 .1 .0) (e .pre .1 .1 .1) (a .result) (a .ensures) (g .0 .0) (g .0 .1 .0) (g .1) (c .opened .result)
 
 returns-2 : tie.Need-returns-2
 returns-2 c =
-    let e = c .before .before .before .before .before .before .before in
+    let e = c .before .before .before .before .before .before in
     let a = c .before .before .before .item-at in
-    step-set (e .pre .0) (e .pre .1 .0) (e .pre .1 .1 .0) (e .pre .1 .1 .1) (a .result) (a .ensures) (c .before .enum-told .given .1) (c .opened .result) (c .opened .ensures)
+    step-set (e .pre .0) (e .pre .1 .0) (e .pre .1 .1 .0) (e .pre .1 .1 .1) (a .result) (a .ensures) (c .before .enum-told .given .1) (c .opened2 .result) (c .opened2 .ensures)
 
 returns-3 : tie.Need-returns-3
 returns-3 c =
-    let e = c .before .before .before .before .before .before in
+    let e = c .before .before .before .before .before in
     let a = c .before .before .item-at in
     step-end (e .pre .0) (e .pre .1 .0) (e .pre .1 .1 .0) (e .pre .1 .1 .1) (a .result) (a .ensures) (c .enum-told2 .given .1)
 
 returns-4 : tie.Need-returns-4
 returns-4 c =
-    let e = c .before .before .before .before .before .before .before in
+    let e = c .before .before .before .before .before .before in
     let a = c .before .before .before .item-at in
     let g = c .before .number .given in
     step-halt (e .pre .0) (e .pre .1 .0) (e .pre .1 .1 .0) (e .pre .1 .1 .1) (a .result) (a .ensures) (g .0 .0) (g .0 .1 .0) (g .1)
@@ -53,8 +56,9 @@ item-step-spec =
     (tie.spec
     item-at-requires
     enum-known-more
-    enum-told
     opened-requires
+    enum-told
+    opened-requires-2
     enum-told-2
     enum-known-number
     returns

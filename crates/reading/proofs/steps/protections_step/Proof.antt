@@ -24,9 +24,12 @@ enum-known-at c = search needs
 no-sums-requires : tie.Need-no-sums-requires
 no-sums-requires c κs = search needs
 
+opened-requires : tie.Need-opened-requires
+opened-requires c κs = search needs
+
 returns : tie.Need-returns
 returns c =
-    let e = c .before .before .before .before .before .before .before .before in
+    let e = c .before .before .before .before .before .before .before in
     let n = c .before .before .before .before .payload in
     let r = c .before .before .before .read-protections in
     let g = c .before .number .given in
@@ -35,10 +38,11 @@ returns c =
 returns-2 : tie.Need-returns-2
 returns-2 c =
     let e = c .before .before .before .before .before .before .before .before .before in
-    let n = c .before .before .before .before .before .payload in
-    let r = c .before .before .before .before .read-protections in
-    let g = c .before .before .at .given in
-    step-upto (e .pre .0) (e .pre .1) (n .result) (n .ensures) (r .result) (r .ensures) (g .0 .0) (g .1) (c .no-sums .result) (c .no-sums .ensures) (e .args .c .set)
+    let n = c .before .before .before .before .before .before .payload in
+    let r = c .before .before .before .before .before .read-protections in
+    let g = c .before .before .before .at .given in
+    let sums = c .before .no-sums in
+    step-upto (e .pre .0) (e .pre .1) (n .result) (n .ensures) (r .result) (r .ensures) (g .0 .0) (g .1) (sums .result) (sums .ensures) (c .opened .result)
 
 pub protections-step-spec : {M : Type 1} → statement M
 protections-step-spec =
@@ -51,5 +55,6 @@ protections-step-spec =
     enum-known-number
     enum-known-at
     no-sums-requires
+    opened-requires
     returns
     returns-2)

@@ -76,11 +76,14 @@ with-set-requires c κs =
     let g = c .before .before .before .before .before .t .given in
     set-roomy (e .pre .0) (e .pre .1 .0) (e .pre .1 .1 .0) (e .pre .1 .1 .1) (r .result) (r .ensures) (g .0 .0) (g .0 .1 .0) (g .1)
 
+opened-requires : tie.Need-opened-requires
+opened-requires c κs = search needs
+
 enum-known-number : tie.Need-enum-known-number
 enum-known-number c = search needs
 
-add-t32 : tie.Need-add-t32
-add-t32 c =
+add-t33 : tie.Need-add-t33
+add-t33 c =
     let e = c .before .before .before .before .before .before .before .before in
     let r = c .before .before .before .weigh in
     let g = c .before .number .given in
@@ -95,10 +98,11 @@ returns c =
 
 returns-2 : tie.Need-returns-2
 returns-2 c =
-    let e = c .before .before .before .before .before .before .before .before .before .before .before .before .before in
-    let r = c .before .before .before .before .before .before .before .before .weigh in
-    let g = c .before .before .before .before .before .before .t .given in
-    step-whole (e .pre .0) (e .pre .1 .0) (e .pre .1 .1 .0) (e .pre .1 .1 .1) (r .result) (r .ensures) (g .0 .0) (g .0 .1 .0) (g .1) (c .with-set .result) (c .with-set .ensures)
+    let e = c .before .before .before .before .before .before .before .before .before .before .before .before .before .before in
+    let r = c .before .before .before .before .before .before .before .before .before .weigh in
+    let g = c .before .before .before .before .before .before .before .t .given in
+    let sums = c .before .with-set in
+    step-whole (e .pre .0) (e .pre .1 .0) (e .pre .1 .1 .0) (e .pre .1 .1 .1) (r .result) (r .ensures) (g .0 .0) (g .0 .1 .0) (g .1) (sums .result) (sums .ensures) (c .opened .result)
 
 returns-3 : tie.Need-returns-3
 returns-3 c =
@@ -124,8 +128,9 @@ set-step-spec =
     shared-slice-read-with-set-3
     shared-slice-read-with-set-4
     with-set-requires
+    opened-requires
     enum-known-number
-    add-t32
+    add-t33
     returns
     returns-2
     returns-3)
