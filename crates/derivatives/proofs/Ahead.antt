@@ -1,30 +1,23 @@
 -- What lies ahead in a set, by what stands where a member or a cover is due. Assumes nothing.
-use Prim.Native.Nat.{ℕ, zero, suc, _+_, _-_, _*_, _^_, _≤_, _<_}
-use mathlib.Core.Path.{_≡_, refl, sym, _∙_, ap, ap₂}
-use mathlib.Core.Bool.{Bool, true, false}
-use mathlib.Core.List.{List, [], _∷_, _++_}
+use Prim.Native.Nat.{ℕ, zero, suc, _+_, _-_, _≤_}
+use mathlib.Core.Path.{_≡_, refl, _∙_, ap}
+use mathlib.Core.Bool.{true}
+use mathlib.Core.List.{List, [], _∷_}
 use native.Mathlib.Nat.{add-zero, zero-add, add-assoc}
-use native.Mathlib.Omega.{arith}
 use lib.ListN.{length}
 use Rattle.rules.specs.declared.Bands.{Bands}
-use Rattle.rules.specs.declared.Draw.{Draw}
 use Rattle.rules.specs.Word.{word, sizeOf}
-use Rattle.rules.specs.Book.{Trade, Cover, Member, trade, written, total}
-use Rattle.rules.specs.Faults.{coverFault}
+use Rattle.rules.specs.Book.{Trade, Cover, Member, trade, written}
 use Rattle.rules.specs.Run.{Turn, over, bad, some, Run, thenRun, runFrom}
 use Rattle.rules.specs.Read.{coverAt, coverTurn, writtenAt, withCovers, memberTurn}
 use Rattle.rules.specs.Register.{drawsFrom, drawsOf}
 use Rattle.rules.specs.Weigh.{writtenAddOn}
-use Rattle.rules.proofs.Runs.{FineTurn, run-on}
-use Rattle.theorems.proofs.Records.{fine-kind, fine-record}
-use Rattle.theorems.proofs.MemberBounds.{perWord, memberWeight, fine-member}
+use Rattle.rules.proofs.Runs.{run-on}
+use Rattle.theorems.proofs.MemberBounds.{perWord, coverWeight, fine-cover, memberWeight, fine-member}
 use Rattle.derivatives.specs.declared.tally.Tally.{Tally}
 use Rattle.derivatives.specs.declared.covers.OpenCredit.{OpenCredit}
 use Rattle.derivatives.specs.Gathered.{plusMember}
-use Rattle.derivatives.specs.Ahead.{SetAhead, gathered, broken, endsWith, after, membersAhead, fromMember, tallyWith, coversBy, coversAhead, fromCover, drawHere, plusCover}
-
-abbrev amountIn : Cover → ℕ
-amountIn c = c .amount
+use Rattle.derivatives.specs.Ahead.{gathered, broken, endsWith, after, membersAhead, fromMember, tallyWith, coversBy, coversAhead, fromCover, drawHere, plusCover}
 
 module _ (bands : Bands) (ws : List ℕ) (begin : ℕ) where
   abbrev memberRun : ℕ → Run Member
@@ -78,17 +71,10 @@ module _ (bands : Bands) (ws : List ℕ) (begin : ℕ) where
 
   -- ---- where a cover is due
 
-  fine-cover : (at : ℕ) → at ≤ length ws → FineTurn (length ws) (2 ^ 27) amountIn at (coverTurn ws at)
-  unfolding coverTurn coverAt
-  fine-cover at h =
-      fine-kind (2 ^ 27) amountIn ws at 7 _ over
-      (λ l e. fine-record (2 ^ 27) amountIn ws at 1 (coverFault (word ws at) (word ws (at + 1))) (some (coverAt ws at) 0) l (rw e) (λ r z. (omega arith, omega arith, omega arith)))
-      tt
-
   module _ (t : Tally) (c : OpenCredit) (at : ℕ) (h : at ≤ length ws) where
     by-cover : (x : Turn Cover) → coverTurn ws at ≡ x → fromCover bands ws begin t c at ≡ coversAhead bands ws begin t c (thenRun x at coverRun)
     unfolding fromCover
-    by-cover x e = ap (coversAhead bands ws begin t c) (run-on (length ws) (2 ^ 27) amountIn (coverTurn ws) fine-cover at h ∙ ap (λ (y : Turn Cover). thenRun y at coverRun) e)
+    by-cover x e = ap (coversAhead bands ws begin t c) (run-on (length ws) perWord coverWeight (coverTurn ws) (fine-cover ws) at h ∙ ap (λ (y : Turn Cover). thenRun y at coverRun) e)
 
     pub cover-over : coverTurn ws at ≡ over → fromCover bands ws begin t c at ≡ fromMember bands ws begin (tallyWith ws t c 0) at
     unfolding drawsFrom

@@ -1,5 +1,5 @@
 -- What stands where a cover of the open credit is due: a cover, or anything else, which closes the credit. Assumes nothing.
-use Prim.Native.Nat.{ℕ, _+_, _*_, _^_, _≤_, _<_}
+use Prim.Native.Nat.{ℕ, _+_, _^_, _≤_, _<_}
 use mathlib.Core.Path.{_≡_, refl, sym, _∙_, ap}
 use mathlib.Core.Bool.{Bool, true, false, _&&_, cond}
 use mathlib.Core.List.{List, [], _∷_}
@@ -8,12 +8,12 @@ use native.Mathlib.Omega.{arith}
 use lib.ListN.{length}
 use Rattle.rules.specs.declared.Bands.{Bands}
 use Rattle.rules.specs.declared.Draw.{Draw}
-use Rattle.rules.specs.Word.{word, sizeOf}
+use Rattle.rules.specs.Word.{word, kindOf, sizeOf}
 use Rattle.rules.specs.Faults.{coverFault}
-use Rattle.rules.specs.Run.{over, bad, some}
+use Rattle.rules.specs.Run.{bad, some}
 use Rattle.rules.specs.Weigh.{writtenAddOn}
 use Rattle.rules.specs.Read.{lacks, stands, recordThen, coverAt, coverTurn, writtenAt}
-use Rattle.records.proofs.Words.{room, turn-lacks, turn-fault, turn-on}
+use Rattle.records.proofs.Words.{turn-lacks, turn-fault, turn-on}
 use Rattle.theorems.proofs.Records.{stands-is, lacks-room}
 use Rattle.theorems.proofs.FactorBounds.{gain-small, loss-small, written-add-on}
 use Rattle.derivatives.specs.declared.tally.Tally.{Tally}
@@ -24,7 +24,7 @@ use Rattle.derivatives.specs.Ahead.{broken, endsWith, after, fromMember,
 use Rattle.derivatives.proofs.Ahead.{cover-over, cover-bad, cover-more}
 
 -- whether a cover is due: a credit is open, and a cover stands there
-module _ (a b r : Bool) (q : r ≡ (a && b)) where
+module _ {a b r : Bool} (q : r ≡ (a && b)) where
   pub due : r ≡ true → (a ≡ true) × (b ≡ true)
   due e = go a b (sym q ∙ e)
     where
@@ -35,28 +35,16 @@ module _ (a b r : Bool) (q : r ≡ (a && b)) where
   pub not-due : r ≡ false → a ≡ true → b ≡ false
   not-due e h = sym (simp h at q) ∙ e
 
-module _ (bands : Bands) (ws : List ℕ) (begin : ℕ) (o : OpenSet) (s : SoundSet ws begin o) where
-  -- ---- no credit is open
+-- ---- how large it is, and that its words are there
 
-  module _ (a : o .credit .allowed ≡ false) where
-    pub none-open : setAhead bands ws begin o ≡ fromMember bands ws begin (o .tally) (o .at)
-    unfolding setAhead
-    none-open = simp a
-
-    pub none-small : SmallTally (o .tally) (o .at)
-    none-small = simp a at (s .small)
-
-  -- ---- one is open
+module _ {ws : List ℕ} {begin : ℕ} {o : OpenSet} (s : SoundSet ws begin o) where
+  pub none-small : o .credit .allowed ≡ false → SmallTally (o .tally) (o .at)
+  none-small a = simp a at (s .small)
 
   module _ (a : o .credit .allowed ≡ true) where
-    pub some-open : setAhead bands ws begin o ≡ fromCover bands ws begin (o .tally) (o .credit) (o .at)
-    unfolding setAhead
-    some-open = simp a
-
     pub open-here : OpenIn ws (o .credit) (o .at)
     open-here = s .credit a
 
-    -- its words are all there
     pub open-room : o .credit .place + 5 < length ws
     open-room = omega (arith, open-here .before, s .within)
 
@@ -66,87 +54,102 @@ module _ (bands : Bands) (ws : List ℕ) (begin : ℕ) (o : OpenSet) (s : SoundS
     pub open-small : SmallTally (o .tally) (o .credit .place)
     open-small = simp a at (s .small)
 
-    -- a cover
-    module _ (k : stands 7 ws (o .at) ≡ true) where
-      abbrev coverFaultAt : ℕ
-      coverFaultAt = coverFault (word ws (o .at)) (word ws (o .at + 1))
+    -- with the open credit in it
+    closed-small : SmallTally (tallyWith ws (o .tally) (o .credit) 0) (o .at)
+    unfolding writtenAt
+    closed-small =
+        let gain = gain-small (word ws (o .credit .place + 1)) in
+        let loss = loss-small (word ws (o .credit .place + 1)) in
+        let add-on = written-add-on (writtenAt ws (o .credit .place) []) in
+        record {
+          weight = omega (arith, open-small .weight, open-here .before, open-here .covered, gain, add-on);
+          losses = omega (arith, open-small .losses, open-here .before, loss);
+          uncovered = omega (arith, open-small .uncovered);
+        }
 
-      cover-turn : coverTurn ws (o .at) ≡ recordThen ws (o .at) coverFaultAt (some (coverAt ws (o .at)) 0)
-      unfolding coverTurn
-      cover-turn = simp k
+  pub cover-there : stands 7 ws (o .at) ≡ true → o .at < length ws
+  cover-there k = stands-is 7 ws (o .at) k .0
 
-      module _ (f : ℕ) (fq : f ≡ coverCause ws (o .at)) where
-        -- a cause is 6 or that of the record's own words
-        pub cover-wrong : (f ≡ 0 → ⊥) → fromCover bands ws begin (o .tally) (o .credit) (o .at) ≡ endsWith (broken f (o .at))
-        unfolding coverCause
-        cover-wrong n = go (lacks 1 ws (o .at)) refl fq
-          where
-            go : (l : Bool) → lacks 1 ws (o .at) ≡ l → f ≡ cond l 6 coverFaultAt → fromCover bands ws begin (o .tally) (o .credit) (o .at) ≡ endsWith (broken f (o .at))
-            go true e q = cover-bad bands ws begin (o .tally) (o .credit) (o .at) (s .within) f (o .at) (cover-turn ∙ turn-lacks ws (o .at) 7 (stands-is 7 ws (o .at) k .1) coverFaultAt (some (coverAt ws (o .at)) 0) e ∙ ap (λ (x : ℕ). bad x (o .at)) (sym q)) n
-            go false e q = cover-bad bands ws begin (o .tally) (o .credit) (o .at) (s .within) f (o .at) (cover-turn ∙ turn-fault ws (o .at) 7 (stands-is 7 ws (o .at) k .1) coverFaultAt (some (coverAt ws (o .at)) 0) e (λ z. n (q ∙ z)) ∙ ap (λ (x : ℕ). bad x (o .at)) (sym q)) n
+  -- a cover without a cause against it
+  module _ (k : stands 7 ws (o .at) ≡ true) {f : ℕ} (fq : f ≡ coverCause ws (o .at)) (z : f ≡ 0) where
+    good : (lacks 1 ws (o .at) ≡ false) × (coverFault (word ws (o .at)) (word ws (o .at + 1)) ≡ 0)
+    unfolding coverCause
+    good = go (lacks 1 ws (o .at)) refl (sym fq ∙ z)
+      where
+        go : (l : Bool) → lacks 1 ws (o .at) ≡ l → _≡_ {A = ℕ} (cond l 6 (coverFault (word ws (o .at)) (word ws (o .at + 1)))) 0
+            → (lacks 1 ws (o .at) ≡ false) × (coverFault (word ws (o .at)) (word ws (o .at + 1)) ≡ 0)
+        go true e q = let x : ⊥ = omega arith in absurd x
+        go false e q = (e, q)
 
-        module _ (z : f ≡ 0) where
-          good : (lacks 1 ws (o .at) ≡ false) × (coverFaultAt ≡ 0)
-          unfolding coverCause
-          good = go (lacks 1 ws (o .at)) refl (sym fq ∙ z)
-            where
-              go : (l : Bool) → lacks 1 ws (o .at) ≡ l → _≡_ {A = ℕ} (cond l 6 coverFaultAt) 0 → (lacks 1 ws (o .at) ≡ false) × (coverFaultAt ≡ 0)
-              go true e q = let x : ⊥ = omega arith in absurd x
-              go false e q = (e, q)
+    pub cover-room : o .at + 1 < length ws
+    cover-room = lacks-room 1 ws (o .at) (good .0) (cover-there k)
 
-          pub cover-room : o .at + 1 < length ws
-          cover-room = lacks-room 1 ws (o .at) (good .0) (stands-is 7 ws (o .at) k .0)
+-- ---- what lies ahead
 
-          cover-is : coverTurn ws (o .at) ≡ some (coverAt ws (o .at)) 0 (o .at + 2)
-          cover-is = cover-turn ∙ turn-on ws (o .at) 7 (stands-is 7 ws (o .at) k .1) coverFaultAt (some (coverAt ws (o .at)) 0) (good .0) (good .1)
+module _ (bands : Bands) {ws : List ℕ} {begin : ℕ} {o : OpenSet} (s : SoundSet ws begin o) where
+  pub none-open : o .credit .allowed ≡ false → setAhead bands ws begin o ≡ fromMember bands ws begin (o .tally) (o .at)
+  unfolding setAhead
+  none-open a = simp a
 
-          module _ (d : Draw) (dq : d ≡ drawHere ws begin (o .at) (o .credit)) (c : OpenCredit) (cq : c ≡ plusCover (o .credit) (d .amount)) where
-            abbrev behindCover : OpenSet
-            behindCover = record { at = o .at + 2; tally = o .tally; credit = c }
+  pub some-open : o .credit .allowed ≡ true → setAhead bands ws begin o ≡ fromCover bands ws begin (o .tally) (o .credit) (o .at)
+  unfolding setAhead
+  some-open a = simp a
 
-            credit-is : c ≡ plusCover (o .credit) (sizeOf (word ws (o .at + 1)))
-            credit-is = cq ∙ ap (λ (x : Draw). plusCover (o .credit) (x .amount)) dq
+  -- a cover stands there
+  module _ (k : stands 7 ws (o .at) ≡ true) {f : ℕ} (fq : f ≡ coverCause ws (o .at)) where
+    abbrev coverFaultAt : ℕ
+    coverFaultAt = coverFault (word ws (o .at)) (word ws (o .at + 1))
 
-            pub cover-on : fromCover bands ws begin (o .tally) (o .credit) (o .at) ≡ after (d ∷ []) (setAhead bands ws begin behindCover)
-            unfolding setAhead
-            cover-on = rw (dq, credit-is) (cover-more bands ws begin (o .tally) (o .credit) (o .at) (s .within) (o .at + 2) cover-is)
+    cover-turn : coverTurn ws (o .at) ≡ recordThen ws (o .at) coverFaultAt (some (coverAt ws (o .at)) 0)
+    unfolding coverTurn
+    cover-turn = simp k
 
-            pub cover-sound : SoundSet ws begin behindCover
-            cover-sound =
-                rw credit-is (record {
-                  short = s .short;
-                  within = omega (arith, cover-room);
-                  small = open-small;
-                  credit = λ x. record {
-                    before = omega (arith, open-here .before);
-                    under = open-here .under;
-                    covered = omega (arith, open-here .covered);
-                  };
-                })
+    -- its cause is 6 or that of its own words
+    pub cover-wrong : (f ≡ 0 → ⊥) → fromCover bands ws begin (o .tally) (o .credit) (o .at) ≡ endsWith (broken f (o .at))
+    unfolding coverCause
+    cover-wrong n = cover-bad bands ws begin (o .tally) (o .credit) (o .at) (s .within) f (o .at) (cover-turn ∙ go (lacks 1 ws (o .at)) refl fq) n
+      where
+        kind : kindOf (word ws (o .at)) ≡ 7
+        kind = stands-is 7 ws (o .at) k .1
 
-    -- anything else
-    module _ (k : stands 7 ws (o .at) ≡ false) where
-      closed-small : SmallTally (tallyWith ws (o .tally) (o .credit) 0) (o .at)
-      unfolding writtenAt
-      closed-small =
-          let gain = gain-small (word ws (o .credit .place + 1)) in
-          let loss = loss-small (word ws (o .credit .place + 1)) in
-          let add-on = written-add-on (writtenAt ws (o .credit .place) []) in
-          record {
-            weight = omega (arith, open-small .weight, open-here .before, open-here .covered, gain, add-on);
-            losses = omega (arith, open-small .losses, open-here .before, loss);
-            uncovered = omega (arith, open-small .uncovered);
-          }
+        go : (l : Bool) → lacks 1 ws (o .at) ≡ l → f ≡ cond l 6 coverFaultAt → recordThen ws (o .at) coverFaultAt (some (coverAt ws (o .at)) 0) ≡ bad f (o .at)
+        go true e q = turn-lacks ws (o .at) 7 kind coverFaultAt (some (coverAt ws (o .at)) 0) e ∙ ap (λ (x : ℕ). bad x (o .at)) (sym q)
+        go false e q = turn-fault ws (o .at) 7 kind coverFaultAt (some (coverAt ws (o .at)) 0) e (λ z. n (q ∙ z)) ∙ ap (λ (x : ℕ). bad x (o .at)) (sym q)
 
-      module _ (t : Tally)
-          (q : t ≡ plusWritten (o .tally) (writtenOf (word ws (o .credit .place)) (word ws (o .credit .place + 1)) (word ws (o .credit .place + 2)) (word ws (o .credit .place + 3)) 0 (word ws (o .credit .place + 5)) []) (o .credit .covered)) where
-        tally-is : t ≡ tallyWith ws (o .tally) (o .credit) 0
-        unfolding writtenAt writtenAddOn
-        tally-is = q ∙ simp add-zero
+    module _ (a : o .credit .allowed ≡ true) (z : f ≡ 0) {d : Draw} (dq : d ≡ drawHere ws begin (o .at) (o .credit)) {c : OpenCredit} (cq : c ≡ plusCover (o .credit) (d .amount)) where
+      abbrev behindCover : OpenSet
+      behindCover = record { at = o .at + 2; tally = o .tally; credit = c }
 
-        pub closes : setAhead bands ws begin o ≡ fromMember bands ws begin t (o .at)
-        unfolding coverTurn
-        closes = some-open ∙ rw tally-is (cover-over bands ws begin (o .tally) (o .credit) (o .at) (s .within) (simp k))
+      cover-is : coverTurn ws (o .at) ≡ some (coverAt ws (o .at)) 0 (o .at + 2)
+      cover-is = let g = good s k fq z in cover-turn ∙ turn-on ws (o .at) 7 (stands-is 7 ws (o .at) k .1) coverFaultAt (some (coverAt ws (o .at)) 0) (g .0) (g .1)
 
-        pub closed-sound : SmallTally t (o .at)
-        closed-sound = rw tally-is closed-small
+      credit-is : c ≡ plusCover (o .credit) (sizeOf (word ws (o .at + 1)))
+      credit-is = cq ∙ ap (λ (x : Draw). plusCover (o .credit) (x .amount)) dq
+
+      pub cover-on : fromCover bands ws begin (o .tally) (o .credit) (o .at) ≡ after (d ∷ []) (setAhead bands ws begin behindCover)
+      unfolding setAhead
+      cover-on = rw (dq, credit-is) (cover-more bands ws begin (o .tally) (o .credit) (o .at) (s .within) (o .at + 2) cover-is)
+
+      pub cover-sound : SoundSet ws begin behindCover
+      cover-sound =
+          let h = open-here s a in
+          rw credit-is (record {
+            short = s .short;
+            within = omega (arith, cover-room s k fq z);
+            small = open-small s a;
+            credit = λ x. record { before = omega (arith, h .before); under = h .under; covered = omega (arith, h .covered) };
+          })
+
+  -- anything else stands there: the credit closes
+  module _ (a : o .credit .allowed ≡ true) (k : stands 7 ws (o .at) ≡ false) {t : Tally}
+      (q : t ≡ plusWritten (o .tally) (writtenOf (word ws (o .credit .place)) (word ws (o .credit .place + 1)) (word ws (o .credit .place + 2)) (word ws (o .credit .place + 3)) 0 (word ws (o .credit .place + 5)) []) (o .credit .covered)) where
+    tally-is : t ≡ tallyWith ws (o .tally) (o .credit) 0
+    unfolding writtenAt writtenAddOn
+    tally-is = q ∙ simp add-zero
+
+    pub closes : setAhead bands ws begin o ≡ fromMember bands ws begin t (o .at)
+    unfolding coverTurn
+    closes = some-open a ∙ rw tally-is (cover-over bands ws begin (o .tally) (o .credit) (o .at) (s .within) (simp k))
+
+    pub closed-sound : SmallTally t (o .at)
+    closed-sound = rw tally-is (closed-small s a)

@@ -1,35 +1,33 @@
 -- What stands where a member of a set is due: what lies ahead behind it, and how large the tally is. Assumes nothing.
-use Prim.Native.Nat.{ℕ, zero, suc, _+_, _-_, _*_, _^_, _≤_, _<_}
+use Prim.Native.Nat.{ℕ, suc, _+_, _-_, _^_, _≤_, _<_}
 use mathlib.Core.Path.{_≡_, refl, sym, _∙_, ap}
-use mathlib.Core.Bool.{Bool, true, false, cond}
-use mathlib.Core.List.{List, [], _∷_}
+use mathlib.Core.Bool.{Bool, true, false}
+use mathlib.Core.List.{List}
 use native.Mathlib.Omega.{arith}
 use borrow.Author.Tests.{le-ltb, lt-ltb, eq-eqb, ne-eqb, ltb-false}
 use lib.ListN.{length}
 use Rattle.rules.specs.declared.Bands.{Bands}
-use Rattle.rules.specs.declared.Draw.{Draw}
 use Rattle.rules.specs.Word.{word, kindOf, sizeOf}
-use Rattle.rules.specs.Book.{Cover, Member, trade, written}
+use Rattle.rules.specs.Book.{Member, trade, written}
 use Rattle.rules.specs.Run.{Turn, bad, some, runFrom}
-use Rattle.rules.specs.Faults.{cause, tradeFault, writtenFault, coverFault}
-use Rattle.rules.specs.Weigh.{lossIn, addOnIn, uncoveredIn, writtenAddOn}
-use Rattle.rules.specs.Read.{lacks, stands, recordThen, coverAt, coverTurn, writtenAt, withCovers, writtenTurn, tradeAt, tradeTurn, memberTurn}
+use Rattle.rules.specs.Faults.{cause, tradeFault, writtenFault}
+use Rattle.rules.specs.Read.{lacks, stands, recordThen, coverTurn, withCovers, writtenTurn, tradeAt, tradeTurn, memberTurn}
 use Rattle.rules.proofs.Runs.{FineTurn}
 use Rattle.records.proofs.Words.{room, turn-lacks, turn-fault, turn-on}
 use Rattle.theorems.proofs.Records.{stands-is}
-use Rattle.theorems.proofs.FactorBounds.{gain-small, loss-small, trade-add-on, written-add-on}
+use Rattle.theorems.proofs.FactorBounds.{loss-small}
 use Rattle.theorems.proofs.MemberBounds.{perWord, memberWeight, fine-member}
 use Rattle.derivatives.specs.declared.tally.Tally.{Tally}
 use Rattle.derivatives.specs.declared.covers.OpenCredit.{OpenCredit}
 use Rattle.derivatives.specs.declared.set.OpenSet.{OpenSet}
-use Rattle.derivatives.specs.Gathered.{plusMember, plusWritten, tradeOf, writtenOf, RoomyTally}
-use Rattle.derivatives.specs.Ahead.{gathered, broken, endsWith, after, fromMember, fromCover, setAhead, tallyWith, coverCause, drawHere, plusCover, noCredit, SmallTally, OpenIn, SoundSet, Standing}
-use Rattle.derivatives.proofs.Ahead.{opening, member-over, member-bad, member-trade, member-opens, cover-over, cover-bad, cover-more}
+use Rattle.derivatives.specs.Gathered.{plusMember, tradeOf, RoomyTally}
+use Rattle.derivatives.specs.Ahead.{gathered, broken, endsWith, fromMember, setAhead, noCredit, SmallTally, SoundSet, Standing}
+use Rattle.derivatives.proofs.Ahead.{opening, member-over, member-bad, member-trade, member-opens}
 
 -- ---- how large a tally is
 
-pub small-roomy : (t : Tally) (at : ℕ) → SmallTally t at → at ≤ 2 ^ 20 → RoomyTally t
-small-roomy t at s h = record {
+pub small-roomy : {t : Tally} {at : ℕ} → SmallTally t at → at ≤ 2 ^ 20 → RoomyTally t
+small-roomy s h = record {
   gains = omega (arith, s .weight);
   losses = omega (arith, s .losses);
   gross = omega (arith, s .weight);
@@ -52,15 +50,24 @@ loss-under w value notional lossTaken days premiums f q e =
     let b = cause-none 7 _ _ a .1 in
     ltb-false _ _ (cause-none 8 _ _ b .0)
 
+-- ---- the words of a record that stands there
+
+module _ {ws : List ℕ} {begin : ℕ} {t : Tally} {at : ℕ} (s : Standing ws begin at t) (kind : ℕ) (k : stands kind ws at ≡ true) where
+  pub head-there : at < length ws
+  head-there = stands-is kind ws at k .0
+
+  pub amount-there : (n i : ℕ) {l : Bool} → l ≡ lacks n ws at → l ≡ false → i ≤ n → at + i < length ws
+  amount-there n i {l} lq e h = room n i ws at l lq e head-there h
+
 -- ---- a trade or a written credit
 
-module _ (bands : Bands) (ws : List ℕ) (begin : ℕ) (t : Tally) (at : ℕ) (s : Standing ws begin at t) where
+module _ (bands : Bands) {ws : List ℕ} {begin : ℕ} {t : Tally} {at : ℕ} (s : Standing ws begin at t) where
   -- by the kind that stands there
   pub none-beyond : length ws ≤ at → fromMember bands ws begin t at ≡ endsWith (gathered t at)
   unfolding memberTurn
   none-beyond h = member-over bands ws begin t at (s .within) (simp (le-ltb at (length ws) h))
 
-  module _ (h : at < length ws) (k : ℕ) (kq : k ≡ kindOf (word ws at)) where
+  module _ (h : at < length ws) {k : ℕ} (kq : k ≡ kindOf (word ws at)) where
     pub stands-there : (kind : ℕ) → k ≡ kind → stands kind ws at ≡ true
     stands-there kind e = simp (lt-ltb at (length ws) h, ← kq, eq-eqb k kind e)
 
@@ -69,7 +76,7 @@ module _ (bands : Bands) (ws : List ℕ) (begin : ℕ) (t : Tally) (at : ℕ) (s
     none-there n m = member-over bands ws begin t at (s .within) (simp (lt-ltb at (length ws) h, ← kq, ne-eqb k 5 n, ne-eqb k 6 m))
 
   -- kind 5
-  module _ (k : stands 5 ws at ≡ true) (l : Bool) (lq : l ≡ lacks 4 ws at) where
+  module _ (k : stands 5 ws at ≡ true) {l : Bool} (lq : l ≡ lacks 4 ws at) where
     abbrev tradeFaultAt : ℕ
     tradeFaultAt = tradeFault (word ws at) (word ws (at + 1)) (word ws (at + 2)) (word ws (at + 3)) (word ws (at + 4))
 
@@ -81,7 +88,7 @@ module _ (bands : Bands) (ws : List ℕ) (begin : ℕ) (t : Tally) (at : ℕ) (s
     trade-lacks e =
         member-bad bands ws begin t at (s .within) 6 at (trade-turn ∙ turn-lacks ws at 5 (stands-is 5 ws at k .1) tradeFaultAt (some (trade (tradeAt ws at)) 0) (sym lq ∙ e)) (λ z. omega arith)
 
-    module _ (e : l ≡ false) (f : ℕ) (fq : f ≡ tradeFaultAt) where
+    module _ (e : l ≡ false) {f : ℕ} (fq : f ≡ tradeFaultAt) where
       pub trade-wrong : (f ≡ 0 → ⊥) → fromMember bands ws begin t at ≡ endsWith (broken f at)
       trade-wrong n =
           member-bad bands ws begin t at (s .within) f at
@@ -101,7 +108,7 @@ module _ (bands : Bands) (ws : List ℕ) (begin : ℕ) (t : Tally) (at : ℕ) (s
               uncovered = omega (arith, s .small .uncovered);
             }
 
-        module _ (more : Tally) (mq : more ≡ plusMember bands t (trade (tradeOf (word ws at) (word ws (at + 1)) (word ws (at + 2)) (word ws (at + 3)) (word ws (at + 4))))) (c : OpenCredit) (cq : c ≡ noCredit) where
+        module _ {more : Tally} (mq : more ≡ plusMember bands t (trade (tradeOf (word ws at) (word ws (at + 1)) (word ws (at + 2)) (word ws (at + 3)) (word ws (at + 4))))) {c : OpenCredit} (cq : c ≡ noCredit) where
           abbrev behindTrade : OpenSet
           behindTrade = record { at = at + 5; tally = more; credit = c }
 
@@ -115,7 +122,7 @@ module _ (bands : Bands) (ws : List ℕ) (begin : ℕ) (t : Tally) (at : ℕ) (s
               rw (cq, mq) (
                 record {
                   short = s .short;
-                  within = omega (arith, room 4 4 ws at l lq e (stands-is 5 ws at k .0) (omega arith));
+                  within = omega (arith, amount-there s 5 k 4 4 lq e (omega arith));
                   small = trade-small;
                   credit = λ x. let y : _≡_ {A = ℕ} 0 1 = cc in absurd (omega arith);
                 },
@@ -123,7 +130,7 @@ module _ (bands : Bands) (ws : List ℕ) (begin : ℕ) (t : Tally) (at : ℕ) (s
               )
 
   -- kind 6, which opens
-  module _ (k : stands 6 ws at ≡ true) (l : Bool) (lq : l ≡ lacks 5 ws at) where
+  module _ (k : stands 6 ws at ≡ true) {l : Bool} (lq : l ≡ lacks 5 ws at) where
     abbrev writtenFaultAt : ℕ
     writtenFaultAt = writtenFault (word ws at) (word ws (at + 1)) (word ws (at + 2)) (word ws (at + 3)) (word ws (at + 4)) (word ws (at + 5))
 
@@ -141,13 +148,13 @@ module _ (bands : Bands) (ws : List ℕ) (begin : ℕ) (t : Tally) (at : ℕ) (s
     written-lacks e =
         member-bad bands ws begin t at (s .within) 6 at (written-turn ∙ turn-lacks ws at 6 (stands-is 6 ws at k .1) writtenFaultAt covers (sym lq ∙ e)) (λ z. omega arith)
 
-    module _ (e : l ≡ false) (f : ℕ) (fq : f ≡ writtenFaultAt) where
+    module _ (e : l ≡ false) {f : ℕ} (fq : f ≡ writtenFaultAt) where
       pub written-wrong : (f ≡ 0 → ⊥) → fromMember bands ws begin t at ≡ endsWith (broken f at)
       written-wrong n =
           member-bad bands ws begin t at (s .within) f at
           (written-turn ∙ turn-fault ws at 6 (stands-is 6 ws at k .1) writtenFaultAt covers (sym lq ∙ e) (λ z. n (fq ∙ z)) ∙ ap (λ (x : ℕ). bad x at) (sym fq)) n
 
-      module _ (z : f ≡ 0) (c : OpenCredit) (cq : c ≡ opening bands ws begin t at (s .within)) where
+      module _ (z : f ≡ 0) {c : OpenCredit} (cq : c ≡ opening bands ws begin t at (s .within)) where
         abbrev behindWritten : OpenSet
         behindWritten = record { at = at + 6; tally = t; credit = c }
 
@@ -163,7 +170,7 @@ module _ (bands : Bands) (ws : List ℕ) (begin : ℕ) (t : Tally) (at : ℕ) (s
             rw cq (
               record {
                 short = s .short;
-                within = omega (arith, room 5 5 ws at l lq e (stands-is 6 ws at k .0) (omega arith));
+                within = omega (arith, amount-there s 6 k 5 5 lq e (omega arith));
                 small = s .small;
                 credit = λ x. record { before = omega arith; under = loss-under _ _ _ _ _ _ f fq z; covered = omega arith };
               },

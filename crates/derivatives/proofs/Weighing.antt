@@ -41,7 +41,7 @@ module _ (bands : Bands) (ws : List ℕ) (begin : ℕ) (from o : OpenSet) (i : W
       let s : (setAhead bands ws begin o ≡ endsWith (gathered t (o .at))) × SmallTally t (o .at) = rw e at q in
       (i .same ∙ s .0, (s .1, i .sound .within))
 
-  pub weighing-stops : (number place : ℕ) → r ≡ Stop number place → (setAhead bands ws begin from ≡ endsWith (broken number place)) × Unit {0}
+  pub weighing-stops : (number place : ℕ) → r ≡ Stop number place → (setAhead bands ws begin from ≡ endsWith (broken number place)) × (place ≤ length ws)
   weighing-stops number place e =
-      let s : (setAhead bands ws begin o ≡ endsWith (broken number place)) × Unit {0} = rw e at q in
-      (i .same ∙ s .0, tt)
+      let s : (setAhead bands ws begin o ≡ endsWith (broken number place)) × (place ≤ length ws) = rw e at q in
+      (i .same ∙ s .0, s .1)

@@ -7,7 +7,7 @@ use mathlib.Core.List.{List, [], _∷_, _++_}
 use lib.ListN.{length}
 use Rattle.rules.specs.declared.Bands.{Bands}
 use Rattle.rules.specs.declared.Draw.{Draw}
-use Rattle.rules.specs.Word.{word, kindOf, fieldOf, sizeOf}
+use Rattle.rules.specs.Word.{word, fieldOf, sizeOf}
 use Rattle.rules.specs.Book.{Cover, Member, total}
 use Rattle.rules.specs.Faults.{coverFault, derivativeSetFault}
 use Rattle.rules.specs.Run.{Run, runFrom}
@@ -142,7 +142,7 @@ abbrev pub SoundStep : List ℕ → (begin at : ℕ) → MemberStep → Type 0
 SoundStep ws begin at (Next o) = SoundSet ws begin o × (at < o .at)
 SoundStep ws begin at (Drawing d o) = SoundSet ws begin o
 SoundStep ws begin at (End t) = SmallTally t at
-SoundStep ws begin at (Stop number place) = Unit {0}
+SoundStep ws begin at (Stop number place) = place ≤ length ws
 
 -- the next cover, or the end
 abbrev pub weighedAhead : Bands → List ℕ → (begin : ℕ) → Weighed → SetAhead
@@ -153,4 +153,4 @@ weighedAhead bands ws begin (Refused number place) = endsWith (broken number pla
 abbrev pub SoundWeighed : List ℕ → (begin : ℕ) → Weighed → Type 0
 SoundWeighed ws begin (Covering d o) = SoundSet ws begin o
 SoundWeighed ws begin (Whole t place) = SmallTally t place × (place ≤ length ws)
-SoundWeighed ws begin (Refused number place) = Unit {0}
+SoundWeighed ws begin (Refused number place) = place ≤ length ws

@@ -23,7 +23,7 @@ use Rattle.reading.specs.declared.steps.Step.the-variants.{On, Cover, En
 use Rattle.reading.specs.Ahead.{setBehind, fromSet, ahead, Sound}
 use Rattle.reading.proofs.AheadLaws.{roomy}
 use Rattle.reading.proofs.ItemLaws.{partAt, from-is}
-use Rattle.reading.proofs.SetBounds.{set-within, weighable, fair-with-set}
+use Rattle.reading.proofs.SetBounds.{weighable, fair-with-set}
 use Rattle.reading.proofs.CursorLaws.{itemCursor, setCursor, sound-item, sound-set, ahead-set, left-set, Right}
 
 -- the set stands in its part of the book
@@ -75,7 +75,7 @@ module _ {ws : List ℕ} {c : Cursor} (so : Sound ws c) (b : c .begun ≡ true) 
   module _ (number place : ℕ) (e : r ≡ Refused number place) where
     pub fault-there : c .at + place ≤ length ws
     fault-there =
-        let l = set-within (headOf ws .bands) (drop (c .at) ws) (c .at) number place (c .set) (so .set b i .within) (rw e at (ap (λ a. a .ending) (weighed .0))) in
+        let l : place ≤ length (drop (c .at) ws) = rw e at (weighed .1) in
         omega (arith, l, length-drop (c .at) ws, so .fair b .within)
 
     pub step-refused : Right ws c (Ended (Fault number (c .at + place)))

@@ -22,15 +22,12 @@ module _ {A S R : Type 0} (n : ℕ) (turn : ℕ → Turn A) (finish : S → Run 
     unfolding runFrom
     taken t e = i .rest ∙ ap (λ (x : Turn A). finish s (thenRun x at (runFrom turn (i .spare)))) e
 
-    -- the run ends here, without a fault or with one, or with one inside the record here
+    -- the run ends here, without a fault or with one
     pub along-over : turn at ≡ over → finish s (ended 0 at) ≡ whole
     along-over e = sym (taken over e)
 
     pub along-bad : (f p : ℕ) → turn at ≡ bad f p → finish s (ended f p) ≡ whole
     along-bad f p e = sym (taken (bad f p) e)
-
-    pub along-broken : (a : A) (f p : ℕ) → turn at ≡ some a (suc f) p → finish s (withOne a (ended (suc f) p)) ≡ whole
-    along-broken a f p e = sym (taken (some a (suc f) p) e)
 
     -- a record more
     pub along-one : (a : A) (next : ℕ) (s′ : S) → turn at ≡ some a 0 next → at < next → next ≤ n → ((r : Run A) → finish s (withOne a r) ≡ finish s′ r) → Along s′ next

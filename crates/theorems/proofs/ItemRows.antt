@@ -21,7 +21,7 @@ use Rattle.theorems.proofs.ItemBounds.{itemWeight}
 
 -- ---- a part by a mark: with it, without it, and both
 
-marked : (b : Bool) (x : ℕ) → cond b x 0 ≤ x
+pub marked : (b : Bool) (x : ℕ) → cond b x 0 ≤ x
 marked true x = omega arith
 marked false x = omega arith
 

@@ -24,7 +24,7 @@ perWord = 2 ^ 41
 abbrev pub coverWeight : Cover → ℕ
 coverWeight c = 1000 * c .amount
 
-fine-cover : (ws : List ℕ) (at : ℕ) → at ≤ length ws → FineTurn (length ws) perWord coverWeight at (coverTurn ws at)
+pub fine-cover : (ws : List ℕ) (at : ℕ) → at ≤ length ws → FineTurn (length ws) perWord coverWeight at (coverTurn ws at)
 unfolding coverTurn coverAt
 fine-cover ws at h =
     fine-kind perWord coverWeight ws at 7 _ over

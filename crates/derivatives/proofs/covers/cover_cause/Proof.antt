@@ -12,9 +12,9 @@ returns : tie.Need-returns
 unfolding coverCause
 returns c =
     let e = c .before .before .before in
-    let if1′ = c .if1 in
-    let lacking′ = c .before .lacking in
-    cause-lacking 1 (e .args .part .now) (e .args .at) _ (lacking′ .result) (lacking′ .ensures) (if1′ .taken)
+    let if1 = c .if1 in
+    let lacking = c .before .lacking in
+    cause-lacking 1 (e .args .part .now) (e .args .at) _ (lacking .result) (lacking .ensures) (if1 .taken)
 
 mul-cover-fault : tie.Need-mul-cover-fault
 mul-cover-fault c = search needs
@@ -31,9 +31,9 @@ mul-cover-fault-2 c = search needs
 shared-slice-read-cover-fault-2 : tie.Need-shared-slice-read-cover-fault-2
 shared-slice-read-cover-fault-2 c =
     let e = c .before .before .before .before .before in
-    let if1′ = c .before .before .if1 in
-    let lacking′ = c .before .before .before .lacking in
-    room 1 1 (e .args .part .now) (e .args .at) (lacking′ .result) (lacking′ .ensures) (if1′ .left) (e .pre .0) (omega arith)
+    let if1 = c .before .before .if1 in
+    let lacking = c .before .before .before .lacking in
+    room 1 1 (e .args .part .now) (e .args .at) (lacking .result) (lacking .ensures) (if1 .left) (e .pre .0) (omega arith)
 
 cover-fault-requires : tie.Need-cover-fault-requires
 cover-fault-requires c κs = search needs
@@ -42,10 +42,10 @@ returns-2 : tie.Need-returns-2
 unfolding coverCause
 returns-2 c =
     let e = c .before .before .before .before .before .before in
-    let cover-fault′ = c .cover-fault in
-    let if1′ = c .before .before .before .if1 in
-    let lacking′ = c .before .before .before .before .lacking in
-    cause-there 1 (e .args .part .now) (e .args .at) _ (lacking′ .result) (lacking′ .ensures) (if1′ .left) (cover-fault′ .result) (cover-fault′ .ensures)
+    let cover-fault = c .cover-fault in
+    let if1 = c .before .before .before .if1 in
+    let lacking = c .before .before .before .before .lacking in
+    cause-there 1 (e .args .part .now) (e .args .at) _ (lacking .result) (lacking .ensures) (if1 .left) (cover-fault .result) (cover-fault .ensures)
 
 pub cover-cause-spec : {M : Type 1} → statement M
 cover-cause-spec =

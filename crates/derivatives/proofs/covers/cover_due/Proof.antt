@@ -8,14 +8,14 @@ standing-requires c κs = search needs
 
 returns : tie.Need-returns
 returns c =
-    let standing′ = c .standing in
-    let if1′ = c .before .if1 in
-    standing′ .ensures ∙ simp (if1′ .taken)
+    let standing = c .standing in
+    let if1 = c .before .if1 in
+    standing .ensures ∙ simp (if1 .taken)
 
 returns-2 : tie.Need-returns-2
 returns-2 c =
-    let if1′ = c .if1 in
-    simp (if1′ .left)
+    let if1 = c .if1 in
+    simp (if1 .left)
 
 pub cover-due-spec : {M : Type 1} → statement M
 cover-due-spec = tie.close (tie.spec standing-requires returns returns-2)

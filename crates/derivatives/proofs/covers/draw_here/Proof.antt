@@ -52,12 +52,12 @@ size-requires-2 c κs = search needs
 
 returns : tie.Need-returns
 returns c =
-    let size2′ = c .size2 in
-    let field3′ = c .before .before .field3 in
-    let size′ = c .before .before .before .before .size in
-    let field2′ = c .before .before .before .before .before .before .field2 in
-    let field′ = c .before .before .before .before .before .before .before .field in
-    simp (field′ .ensures, field2′ .ensures, size′ .ensures, field3′ .ensures, size2′ .ensures)
+    let size2 = c .size2 in
+    let field3 = c .before .before .field3 in
+    let size = c .before .before .before .before .size in
+    let field2 = c .before .before .before .before .before .before .field2 in
+    let field = c .before .before .before .before .before .before .before .field in
+    simp (field .ensures, field2 .ensures, size .ensures, field3 .ensures, size2 .ensures)
 
 pub draw-here-spec : {M : Type 1} → statement M
 draw-here-spec =

@@ -13,9 +13,9 @@ short-of-requires c κs = search needs
 
 returns : tie.Need-returns
 returns c =
-    let short-of′ = c .short-of in
-    let wide′ = c .before .before .wide in
-    simp (wide′ .ensures, short-of′ .ensures)
+    let short-of = c .short-of in
+    let wide = c .before .before .wide in
+    simp (wide .ensures, short-of .ensures)
 
 pub with-cover-spec : {M : Type 1} → statement M
 with-cover-spec = tie.close (tie.spec wide-requires add-t5 short-of-requires returns)

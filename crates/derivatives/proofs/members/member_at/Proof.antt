@@ -6,8 +6,8 @@ use Rattle.derivatives.proofs.members.member_at.Tie as tie
 returns : tie.Need-returns
 returns c =
     let e = c .before .before in
-    let if1′ = c .if1 in
-    (none-beyond (e .args .bands) (e .args .part .now) (e .args .begin) (e .args .t) (e .args .at) (e .pre) (if1′ .taken), e .pre .small)
+    let if1 = c .if1 in
+    (none-beyond (e .args .bands) (e .pre) (if1 .taken), e .pre .small)
 
 mul-kind : tie.Need-mul-kind
 mul-kind c = search needs
@@ -21,10 +21,10 @@ kind-requires c κs = search needs
 trade-requires : tie.Need-trade-requires
 trade-requires c κs =
     let e = c .before .before .before .before .before in
-    let if2′ = c .if2 in
-    let kind′ = c .before .kind in
-    let if1′ = c .before .before .before .if1 in
-    ((e .pre), stands-there (e .args .bands) (e .args .part .now) (e .args .begin) (e .args .t) (e .args .at) (e .pre) (if1′ .left) _ (kind′ .ensures) 5 (if2′ .taken))
+    let if2 = c .if2 in
+    let kind = c .before .kind in
+    let if1 = c .before .before .before .if1 in
+    ((e .pre), stands-there (e .args .bands) (e .pre) (if1 .left) (kind .ensures) 5 (if2 .taken))
 
 returns-2 : tie.Need-returns-2
 returns-2 c = search needs
@@ -32,10 +32,10 @@ returns-2 c = search needs
 written-requires : tie.Need-written-requires
 written-requires c κs =
     let e = c .before .before .before .before .before .before in
-    let if3′ = c .if3 in
-    let kind′ = c .before .before .kind in
-    let if1′ = c .before .before .before .before .if1 in
-    ((e .pre), stands-there (e .args .bands) (e .args .part .now) (e .args .begin) (e .args .t) (e .args .at) (e .pre) (if1′ .left) _ (kind′ .ensures) 6 (if3′ .taken))
+    let if3 = c .if3 in
+    let kind = c .before .before .kind in
+    let if1 = c .before .before .before .before .if1 in
+    ((e .pre), stands-there (e .args .bands) (e .pre) (if1 .left) (kind .ensures) 6 (if3 .taken))
 
 returns-3 : tie.Need-returns-3
 returns-3 c = search needs
@@ -43,11 +43,11 @@ returns-3 c = search needs
 returns-4 : tie.Need-returns-4
 returns-4 c =
     let e = c .before .before .before .before .before .before in
-    let if3′ = c .if3 in
-    let if2′ = c .before .if2 in
-    let kind′ = c .before .before .kind in
-    let if1′ = c .before .before .before .before .if1 in
-    (none-there (e .args .bands) (e .args .part .now) (e .args .begin) (e .args .t) (e .args .at) (e .pre) (if1′ .left) _ (kind′ .ensures) (if2′ .left) (if3′ .left), e .pre .small)
+    let if3 = c .if3 in
+    let if2 = c .before .if2 in
+    let kind = c .before .before .kind in
+    let if1 = c .before .before .before .before .if1 in
+    (none-there (e .args .bands) (e .pre) (if1 .left) (kind .ensures) (if2 .left) (if3 .left), e .pre .small)
 
 pub member-at-spec : {M : Type 1} → statement M
 member-at-spec =

@@ -1,7 +1,5 @@
 use native.Mathlib.Omega.{arith}
-use Rattle.theorems.proofs.Records.{stands-is}
-use Rattle.records.proofs.Words.{room}
-use Rattle.derivatives.proofs.Turns.{small-roomy, trade-lacks, trade-wrong, trade-on, trade-sound}
+use Rattle.derivatives.proofs.Turns.{head-there, amount-there, small-roomy, trade-lacks, trade-wrong, trade-on, trade-sound}
 use borrow.Author.Needs.{needs}
 use Rattle.derivatives.proofs.members.trade.Statement.{statement}
 use Rattle.derivatives.proofs.members.trade.Tie as tie
@@ -14,9 +12,9 @@ lacking-requires c κs =
 returns : tie.Need-returns
 returns c =
     let e = c .before .before .before in
-    let if1′ = c .if1 in
-    let lacking′ = c .before .lacking in
-    (trade-lacks (e .args .bands) (e .args .part .now) (e .args .begin) (e .args .t) (e .args .at) (e .pre .0) (e .pre .1) _ (lacking′ .ensures) (if1′ .taken), tt)
+    let if1 = c .if1 in
+    let lacking = c .before .lacking in
+    (trade-lacks (e .args .bands) (e .pre .0) (e .pre .1) (lacking .ensures) (if1 .taken), e .pre .0 .within)
 
 mul-w : tie.Need-mul-w
 mul-w c = search needs
@@ -24,7 +22,7 @@ mul-w c = search needs
 shared-slice-read-w : tie.Need-shared-slice-read-w
 shared-slice-read-w c =
     let e = c .before .before .before .before in
-    stands-is 5 (e .args .part .now) (e .args .at) (e .pre .1) .0
+    head-there (e .pre .0) 5 (e .pre .1)
 
 add-value : tie.Need-add-value
 add-value c = search needs
@@ -35,9 +33,9 @@ mul-value c = search needs
 shared-slice-read-value : tie.Need-shared-slice-read-value
 shared-slice-read-value c =
     let e = c .before .before .before .before .before in
-    let if1′ = c .before .before .if1 in
-    let lacking′ = c .before .before .before .lacking in
-    room 4 1 (e .args .part .now) (e .args .at) _ (lacking′ .ensures) (if1′ .left) (stands-is 5 (e .args .part .now) (e .args .at) (e .pre .1) .0) (omega arith)
+    let if1 = c .before .before .if1 in
+    let lacking = c .before .before .before .lacking in
+    amount-there (e .pre .0) 5 (e .pre .1) 4 1 (lacking .ensures) (if1 .left) (omega arith)
 
 add-notional : tie.Need-add-notional
 add-notional c = search needs
@@ -48,9 +46,9 @@ mul-notional c = search needs
 shared-slice-read-notional : tie.Need-shared-slice-read-notional
 shared-slice-read-notional c =
     let e = c .before .before .before .before .before .before in
-    let if1′ = c .before .before .before .if1 in
-    let lacking′ = c .before .before .before .before .lacking in
-    room 4 2 (e .args .part .now) (e .args .at) _ (lacking′ .ensures) (if1′ .left) (stands-is 5 (e .args .part .now) (e .args .at) (e .pre .1) .0) (omega arith)
+    let if1 = c .before .before .before .if1 in
+    let lacking = c .before .before .before .before .lacking in
+    amount-there (e .pre .0) 5 (e .pre .1) 4 2 (lacking .ensures) (if1 .left) (omega arith)
 
 add-days : tie.Need-add-days
 add-days c = search needs
@@ -61,9 +59,9 @@ mul-days c = search needs
 shared-slice-read-days : tie.Need-shared-slice-read-days
 shared-slice-read-days c =
     let e = c .before .before .before .before .before .before .before in
-    let if1′ = c .before .before .before .before .if1 in
-    let lacking′ = c .before .before .before .before .before .lacking in
-    room 4 3 (e .args .part .now) (e .args .at) _ (lacking′ .ensures) (if1′ .left) (stands-is 5 (e .args .part .now) (e .args .at) (e .pre .1) .0) (omega arith)
+    let if1 = c .before .before .before .before .if1 in
+    let lacking = c .before .before .before .before .before .lacking in
+    amount-there (e .pre .0) 5 (e .pre .1) 4 3 (lacking .ensures) (if1 .left) (omega arith)
 
 add-reset-days : tie.Need-add-reset-days
 add-reset-days c = search needs
@@ -74,9 +72,9 @@ mul-reset-days c = search needs
 shared-slice-read-reset-days : tie.Need-shared-slice-read-reset-days
 shared-slice-read-reset-days c =
     let e = c .before .before .before .before .before .before .before .before in
-    let if1′ = c .before .before .before .before .before .if1 in
-    let lacking′ = c .before .before .before .before .before .before .lacking in
-    room 4 4 (e .args .part .now) (e .args .at) _ (lacking′ .ensures) (if1′ .left) (stands-is 5 (e .args .part .now) (e .args .at) (e .pre .1) .0) (omega arith)
+    let if1 = c .before .before .before .before .before .if1 in
+    let lacking = c .before .before .before .before .before .before .lacking in
+    amount-there (e .pre .0) 5 (e .pre .1) 4 4 (lacking .ensures) (if1 .left) (omega arith)
 
 trade-fault-requires : tie.Need-trade-fault-requires
 trade-fault-requires c κs = search needs
@@ -84,11 +82,11 @@ trade-fault-requires c κs = search needs
 returns-2 : tie.Need-returns-2
 returns-2 c =
     let e = c .before .before .before .before .before .before .before .before .before .before in
-    let if2′ = c .if2 in
-    let trade-fault′ = c .before .trade-fault in
-    let if1′ = c .before .before .before .before .before .before .before .if1 in
-    let lacking′ = c .before .before .before .before .before .before .before .before .lacking in
-    (trade-wrong (e .args .bands) (e .args .part .now) (e .args .begin) (e .args .t) (e .args .at) (e .pre .0) (e .pre .1) _ (lacking′ .ensures) (if1′ .left) _ (trade-fault′ .ensures) (if2′ .taken), tt)
+    let if2 = c .if2 in
+    let trade-fault = c .before .trade-fault in
+    let if1 = c .before .before .before .before .before .before .before .if1 in
+    let lacking = c .before .before .before .before .before .before .before .before .lacking in
+    (trade-wrong (e .args .bands) (e .pre .0) (e .pre .1) (lacking .ensures) (if1 .left) (trade-fault .ensures) (if2 .taken), e .pre .0 .within)
 
 add-t14 : tie.Need-add-t14
 add-t14 c = search needs
@@ -96,7 +94,7 @@ add-t14 c = search needs
 add-trade-requires : tie.Need-add-trade-requires
 add-trade-requires c κs =
     let e = c .before .before .before .before .before .before .before .before .before .before in
-    small-roomy (e .args .t) (e .args .at) (e .pre .0 .small) (omega (arith, e .pre .0 .within, e .pre .0 .short))
+    small-roomy (e .pre .0 .small) (omega (arith, e .pre .0 .within, e .pre .0 .short))
 
 no-credit-requires : tie.Need-no-credit-requires
 no-credit-requires c κs = search needs
@@ -104,13 +102,13 @@ no-credit-requires c κs = search needs
 returns-3 : tie.Need-returns-3
 returns-3 c =
     let e = c .before .before .before .before .before .before .before .before .before .before .before .before in
-    let no-credit′ = c .no-credit in
-    let add-trade′ = c .before .add-trade in
-    let if2′ = c .before .before .if2 in
-    let trade-fault′ = c .before .before .before .trade-fault in
-    let if1′ = c .before .before .before .before .before .before .before .before .before .if1 in
-    let lacking′ = c .before .before .before .before .before .before .before .before .before .before .lacking in
-    (trade-on (e .args .bands) (e .args .part .now) (e .args .begin) (e .args .t) (e .args .at) (e .pre .0) (e .pre .1) _ (lacking′ .ensures) (if1′ .left) _ (trade-fault′ .ensures) (if2′ .left) _ (add-trade′ .ensures) _ (no-credit′ .ensures), trade-sound (e .args .bands) (e .args .part .now) (e .args .begin) (e .args .t) (e .args .at) (e .pre .0) (e .pre .1) _ (lacking′ .ensures) (if1′ .left) _ (trade-fault′ .ensures) (if2′ .left) _ (add-trade′ .ensures) _ (no-credit′ .ensures))
+    let no-credit = c .no-credit in
+    let add-trade = c .before .add-trade in
+    let if2 = c .before .before .if2 in
+    let trade-fault = c .before .before .before .trade-fault in
+    let if1 = c .before .before .before .before .before .before .before .before .before .if1 in
+    let lacking = c .before .before .before .before .before .before .before .before .before .before .lacking in
+    (trade-on (e .args .bands) (e .pre .0) (e .pre .1) (lacking .ensures) (if1 .left) (trade-fault .ensures) (if2 .left) (add-trade .ensures) (no-credit .ensures), trade-sound (e .args .bands) (e .pre .0) (e .pre .1) (lacking .ensures) (if1 .left) (trade-fault .ensures) (if2 .left) (add-trade .ensures) (no-credit .ensures))
 
 pub trade-spec : {M : Type 1} → statement M
 trade-spec =

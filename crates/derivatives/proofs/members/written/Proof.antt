@@ -1,7 +1,5 @@
 use native.Mathlib.Omega.{arith}
-use Rattle.theorems.proofs.Records.{stands-is}
-use Rattle.records.proofs.Words.{room}
-use Rattle.derivatives.proofs.Turns.{loss-under, written-lacks, written-wrong, written-on, written-sound}
+use Rattle.derivatives.proofs.Turns.{head-there, amount-there, loss-under, written-lacks, written-wrong, written-on, written-sound}
 use borrow.Author.Needs.{needs}
 use Rattle.derivatives.proofs.members.written.Statement.{statement}
 use Rattle.derivatives.proofs.members.written.Tie as tie
@@ -14,9 +12,9 @@ lacking-requires c κs =
 returns : tie.Need-returns
 returns c =
     let e = c .before .before .before in
-    let if1′ = c .if1 in
-    let lacking′ = c .before .lacking in
-    (written-lacks (e .args .bands) (e .args .part .now) (e .args .begin) (e .args .t) (e .args .at) (e .pre .0) (e .pre .1) _ (lacking′ .ensures) (if1′ .taken), tt)
+    let if1 = c .if1 in
+    let lacking = c .before .lacking in
+    (written-lacks (e .args .bands) (e .pre .0) (e .pre .1) (lacking .ensures) (if1 .taken), e .pre .0 .within)
 
 add-notional : tie.Need-add-notional
 add-notional c = search needs
@@ -27,9 +25,9 @@ mul-notional c = search needs
 shared-slice-read-notional : tie.Need-shared-slice-read-notional
 shared-slice-read-notional c =
     let e = c .before .before .before .before in
-    let if1′ = c .before .if1 in
-    let lacking′ = c .before .before .lacking in
-    room 5 2 (e .args .part .now) (e .args .at) _ (lacking′ .ensures) (if1′ .left) (stands-is 6 (e .args .part .now) (e .args .at) (e .pre .1) .0) (omega arith)
+    let if1 = c .before .if1 in
+    let lacking = c .before .before .lacking in
+    amount-there (e .pre .0) 6 (e .pre .1) 5 2 (lacking .ensures) (if1 .left) (omega arith)
 
 add-loss-taken : tie.Need-add-loss-taken
 add-loss-taken c = search needs
@@ -40,9 +38,9 @@ mul-loss-taken c = search needs
 shared-slice-read-loss-taken : tie.Need-shared-slice-read-loss-taken
 shared-slice-read-loss-taken c =
     let e = c .before .before .before .before .before in
-    let if1′ = c .before .before .if1 in
-    let lacking′ = c .before .before .before .lacking in
-    room 5 3 (e .args .part .now) (e .args .at) _ (lacking′ .ensures) (if1′ .left) (stands-is 6 (e .args .part .now) (e .args .at) (e .pre .1) .0) (omega arith)
+    let if1 = c .before .before .if1 in
+    let lacking = c .before .before .before .lacking in
+    amount-there (e .pre .0) 6 (e .pre .1) 5 3 (lacking .ensures) (if1 .left) (omega arith)
 
 mul-written-fault : tie.Need-mul-written-fault
 mul-written-fault c = search needs
@@ -50,7 +48,7 @@ mul-written-fault c = search needs
 shared-slice-read-written-fault : tie.Need-shared-slice-read-written-fault
 shared-slice-read-written-fault c =
     let e = c .before .before .before .before .before .before in
-    stands-is 6 (e .args .part .now) (e .args .at) (e .pre .1) .0
+    head-there (e .pre .0) 6 (e .pre .1)
 
 add-written-fault : tie.Need-add-written-fault
 add-written-fault c = search needs
@@ -61,9 +59,9 @@ mul-written-fault-2 c = search needs
 shared-slice-read-written-fault-2 : tie.Need-shared-slice-read-written-fault-2
 shared-slice-read-written-fault-2 c =
     let e = c .before .before .before .before .before .before .before in
-    let if1′ = c .before .before .before .before .if1 in
-    let lacking′ = c .before .before .before .before .before .lacking in
-    room 5 1 (e .args .part .now) (e .args .at) _ (lacking′ .ensures) (if1′ .left) (stands-is 6 (e .args .part .now) (e .args .at) (e .pre .1) .0) (omega arith)
+    let if1 = c .before .before .before .before .if1 in
+    let lacking = c .before .before .before .before .before .lacking in
+    amount-there (e .pre .0) 6 (e .pre .1) 5 1 (lacking .ensures) (if1 .left) (omega arith)
 
 add-written-fault-2 : tie.Need-add-written-fault-2
 add-written-fault-2 c = search needs
@@ -74,9 +72,9 @@ mul-written-fault-3 c = search needs
 shared-slice-read-written-fault-3 : tie.Need-shared-slice-read-written-fault-3
 shared-slice-read-written-fault-3 c =
     let e = c .before .before .before .before .before .before .before .before in
-    let if1′ = c .before .before .before .before .before .if1 in
-    let lacking′ = c .before .before .before .before .before .before .lacking in
-    room 5 4 (e .args .part .now) (e .args .at) _ (lacking′ .ensures) (if1′ .left) (stands-is 6 (e .args .part .now) (e .args .at) (e .pre .1) .0) (omega arith)
+    let if1 = c .before .before .before .before .before .if1 in
+    let lacking = c .before .before .before .before .before .before .lacking in
+    amount-there (e .pre .0) 6 (e .pre .1) 5 4 (lacking .ensures) (if1 .left) (omega arith)
 
 add-written-fault-3 : tie.Need-add-written-fault-3
 add-written-fault-3 c = search needs
@@ -87,9 +85,9 @@ mul-written-fault-4 c = search needs
 shared-slice-read-written-fault-4 : tie.Need-shared-slice-read-written-fault-4
 shared-slice-read-written-fault-4 c =
     let e = c .before .before .before .before .before .before .before .before .before in
-    let if1′ = c .before .before .before .before .before .before .if1 in
-    let lacking′ = c .before .before .before .before .before .before .before .lacking in
-    room 5 5 (e .args .part .now) (e .args .at) _ (lacking′ .ensures) (if1′ .left) (stands-is 6 (e .args .part .now) (e .args .at) (e .pre .1) .0) (omega arith)
+    let if1 = c .before .before .before .before .before .before .if1 in
+    let lacking = c .before .before .before .before .before .before .before .lacking in
+    amount-there (e .pre .0) 6 (e .pre .1) 5 5 (lacking .ensures) (if1 .left) (omega arith)
 
 written-fault-requires : tie.Need-written-fault-requires
 written-fault-requires c κs = search needs
@@ -97,11 +95,11 @@ written-fault-requires c κs = search needs
 returns-2 : tie.Need-returns-2
 returns-2 c =
     let e = c .before .before .before .before .before .before .before .before .before .before .before in
-    let if2′ = c .if2 in
-    let written-fault′ = c .before .written-fault in
-    let if1′ = c .before .before .before .before .before .before .before .before .if1 in
-    let lacking′ = c .before .before .before .before .before .before .before .before .before .lacking in
-    (written-wrong (e .args .bands) (e .args .part .now) (e .args .begin) (e .args .t) (e .args .at) (e .pre .0) (e .pre .1) _ (lacking′ .ensures) (if1′ .left) _ (written-fault′ .ensures) (if2′ .taken), tt)
+    let if2 = c .if2 in
+    let written-fault = c .before .written-fault in
+    let if1 = c .before .before .before .before .before .before .before .before .if1 in
+    let lacking = c .before .before .before .before .before .before .before .before .before .lacking in
+    (written-wrong (e .args .bands) (e .pre .0) (e .pre .1) (lacking .ensures) (if1 .left) (written-fault .ensures) (if2 .taken), e .pre .0 .within)
 
 size-requires : tie.Need-size-requires
 size-requires c κs = search needs
@@ -111,11 +109,11 @@ size-requires-2 c κs = search needs
 
 sub-t28 : tie.Need-sub-t28
 sub-t28 c =
-    let size2′ = c .size2 in
-    let size′ = c .before .size in
-    let if2′ = c .before .before .if2 in
-    let written-fault′ = c .before .before .before .written-fault in
-    rw (size′ .ensures, size2′ .ensures) (loss-under _ _ _ _ _ _ _ (written-fault′ .ensures) (if2′ .left))
+    let size2 = c .size2 in
+    let size = c .before .size in
+    let if2 = c .before .before .if2 in
+    let written-fault = c .before .before .before .written-fault in
+    rw (size .ensures, size2 .ensures) (loss-under _ _ _ _ _ _ _ (written-fault .ensures) (if2 .left))
 
 add-t12 : tie.Need-add-t12
 add-t12 c = search needs
@@ -123,13 +121,13 @@ add-t12 c = search needs
 returns-3 : tie.Need-returns-3
 returns-3 c =
     let e = c .before .before .before .before .before .before .before .before .before .before .before .before .before in
-    let size2′ = c .size2 in
-    let size′ = c .before .size in
-    let if2′ = c .before .before .if2 in
-    let written-fault′ = c .before .before .before .written-fault in
-    let if1′ = c .before .before .before .before .before .before .before .before .before .before .if1 in
-    let lacking′ = c .before .before .before .before .before .before .before .before .before .before .before .lacking in
-    (written-on (e .args .bands) (e .args .part .now) (e .args .begin) (e .args .t) (e .args .at) (e .pre .0) (e .pre .1) _ (lacking′ .ensures) (if1′ .left) _ (written-fault′ .ensures) (if2′ .left) _ (simp (size′ .ensures, size2′ .ensures)), written-sound (e .args .bands) (e .args .part .now) (e .args .begin) (e .args .t) (e .args .at) (e .pre .0) (e .pre .1) _ (lacking′ .ensures) (if1′ .left) _ (written-fault′ .ensures) (if2′ .left) _ (simp (size′ .ensures, size2′ .ensures)))
+    let size2 = c .size2 in
+    let size = c .before .size in
+    let if2 = c .before .before .if2 in
+    let written-fault = c .before .before .before .written-fault in
+    let if1 = c .before .before .before .before .before .before .before .before .before .before .if1 in
+    let lacking = c .before .before .before .before .before .before .before .before .before .before .before .lacking in
+    (written-on (e .args .bands) (e .pre .0) (e .pre .1) (lacking .ensures) (if1 .left) (written-fault .ensures) (if2 .left) (simp (size .ensures, size2 .ensures)), written-sound (e .args .bands) (e .pre .0) (e .pre .1) (lacking .ensures) (if1 .left) (written-fault .ensures) (if2 .left) (simp (size .ensures, size2 .ensures)))
 
 pub written-spec : {M : Type 1} → statement M
 written-spec =
