@@ -15,8 +15,8 @@ ghost use denote.Ref.{now};
 ghost use Rattle.rules.specs.Read.{stands};
 ghost use Rattle.derivatives.specs.Ahead.{OpenIn, coverCause, drawHere, noCredit, plusCover};
 
-// A written credit whose covers may follow: where its record stands, what its covers so far come to, and what they leave of its
-// notional minus loss.
+// The written credit whose covers are being read, if there is one and so covers are allowed: where its record stands, what its covers so
+// far come to, and what they leave of its notional minus loss.
 pub struct OpenCredit {
     pub allowed: bool,
     pub place: usize,

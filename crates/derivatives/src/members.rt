@@ -16,8 +16,6 @@ use words::amount::size;
 use words::parts::kind;
 ghost use mathlib.Core.Path.{_≡_};
 ghost use mathlib.Core.Bool.{true, false};
-ghost use Prim.Native.Nat.{_+_, _^_, _≤_};
-ghost use lib.ListN.{length};
 ghost use denote.Ref.{now};
 ghost use Rattle.rules.specs.Read.{stands};
 ghost use Rattle.derivatives.specs.Ahead.{Standing, SmallTally, SoundSet, SoundStep, fromCover, fromMember, setAhead, stepAhead};

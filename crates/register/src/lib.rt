@@ -2,7 +2,6 @@
 mod book;
 mod entries;
 
-pub use crate::book::word_at;
 pub use crate::entries::clear;
 use crate::entries::draw;
 use crate::entries::load_all;
