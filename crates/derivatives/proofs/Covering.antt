@@ -1,19 +1,19 @@
 -- What stands where a cover of the open credit is due: a cover, or anything else, which closes the credit. Assumes nothing.
 use Prim.Native.Nat.{ℕ, _+_, _^_, _≤_, _<_}
 use mathlib.Core.Path.{_≡_, refl, sym, _∙_, ap}
-use mathlib.Core.Bool.{Bool, true, false, _&&_, cond}
+use mathlib.Core.Bool.{Bool, true, false, _&&_}
 use mathlib.Core.List.{List, [], _∷_}
 use native.Mathlib.Nat.{add-zero}
 use native.Mathlib.Omega.{arith}
 use lib.ListN.{length}
 use Rattle.rules.specs.declared.Bands.{Bands}
 use Rattle.rules.specs.declared.Draw.{Draw}
-use Rattle.rules.specs.Word.{word, kindOf, sizeOf}
+use Rattle.rules.specs.Word.{word, sizeOf}
 use Rattle.rules.specs.Faults.{coverFault}
 use Rattle.rules.specs.Run.{bad, some}
 use Rattle.rules.specs.Weigh.{writtenAddOn}
 use Rattle.rules.specs.Read.{lacks, stands, recordThen, coverAt, coverTurn, writtenAt}
-use Rattle.records.proofs.Words.{turn-lacks, turn-fault, turn-on}
+use Rattle.records.proofs.Words.{record-faulty, record-good}
 use Rattle.theorems.proofs.Records.{stands-is, lacks-room}
 use Rattle.theorems.proofs.FactorBounds.{gain-small, loss-small, written-add-on}
 use Rattle.derivatives.specs.declared.tally.Tally.{Tally}
@@ -72,14 +72,9 @@ module _ {ws : List ℕ} {begin : ℕ} {o : OpenSet} (s : SoundSet ws begin o) w
 
   -- a cover without a cause against it
   module _ (k : stands 7 ws (o .at) ≡ true) {f : ℕ} (fq : f ≡ coverCause ws (o .at)) (z : f ≡ 0) where
-    good : (lacks 1 ws (o .at) ≡ false) × (coverFault (word ws (o .at)) (word ws (o .at + 1)) ≡ 0)
+    good : (lacks 1 ws (o .at) ≡ false) × (recordThen ws (o .at) (coverFault (word ws (o .at)) (word ws (o .at + 1))) (some (coverAt ws (o .at)) 0) ≡ some (coverAt ws (o .at)) 0 (o .at + 2))
     unfolding coverCause
-    good = go (lacks 1 ws (o .at)) refl (sym fq ∙ z)
-      where
-        go : (l : Bool) → lacks 1 ws (o .at) ≡ l → _≡_ {A = ℕ} (cond l 6 (coverFault (word ws (o .at)) (word ws (o .at + 1)))) 0
-            → (lacks 1 ws (o .at) ≡ false) × (coverFault (word ws (o .at)) (word ws (o .at + 1)) ≡ 0)
-        go true e q = let x : ⊥ = omega arith in absurd x
-        go false e q = (e, q)
+    good = record-good ws (o .at) 7 (stands-is 7 ws (o .at) k .1) (coverFault (word ws (o .at)) (word ws (o .at + 1))) (some (coverAt ws (o .at)) 0) (sym fq ∙ z)
 
     pub cover-room : o .at + 1 < length ws
     cover-room = lacks-room 1 ws (o .at) (good .0) (cover-there k)
@@ -104,24 +99,18 @@ module _ (bands : Bands) {ws : List ℕ} {begin : ℕ} {o : OpenSet} (s : SoundS
     unfolding coverTurn
     cover-turn = simp k
 
-    -- its cause is 6 or that of its own words
     pub cover-wrong : (f ≡ 0 → ⊥) → fromCover bands ws begin (o .tally) (o .credit) (o .at) ≡ endsWith (broken f (o .at))
     unfolding coverCause
-    cover-wrong n = cover-bad bands ws begin (o .tally) (o .credit) (o .at) (s .within) f (o .at) (cover-turn ∙ go (lacks 1 ws (o .at)) refl fq) n
-      where
-        kind : kindOf (word ws (o .at)) ≡ 7
-        kind = stands-is 7 ws (o .at) k .1
-
-        go : (l : Bool) → lacks 1 ws (o .at) ≡ l → f ≡ cond l 6 coverFaultAt → recordThen ws (o .at) coverFaultAt (some (coverAt ws (o .at)) 0) ≡ bad f (o .at)
-        go true e q = turn-lacks ws (o .at) 7 kind coverFaultAt (some (coverAt ws (o .at)) 0) e ∙ ap (λ (x : ℕ). bad x (o .at)) (sym q)
-        go false e q = turn-fault ws (o .at) 7 kind coverFaultAt (some (coverAt ws (o .at)) 0) e (λ z. n (q ∙ z)) ∙ ap (λ (x : ℕ). bad x (o .at)) (sym q)
+    cover-wrong n =
+        cover-bad bands ws begin (o .tally) (o .credit) (o .at) (s .within) f (o .at)
+        (cover-turn ∙ record-faulty ws (o .at) 7 (stands-is 7 ws (o .at) k .1) coverFaultAt (some (coverAt ws (o .at)) 0) (λ z. n (fq ∙ z)) ∙ ap (λ (x : ℕ). bad x (o .at)) (sym fq)) n
 
     module _ (a : o .credit .allowed ≡ true) (z : f ≡ 0) {d : Draw} (dq : d ≡ drawHere ws begin (o .at) (o .credit)) {c : OpenCredit} (cq : c ≡ plusCover (o .credit) (d .amount)) where
       abbrev behindCover : OpenSet
       behindCover = record { at = o .at + 2; tally = o .tally; credit = c }
 
       cover-is : coverTurn ws (o .at) ≡ some (coverAt ws (o .at)) 0 (o .at + 2)
-      cover-is = let g = good s k fq z in cover-turn ∙ turn-on ws (o .at) 7 (stands-is 7 ws (o .at) k .1) coverFaultAt (some (coverAt ws (o .at)) 0) (g .0) (g .1)
+      cover-is = cover-turn ∙ good s k fq z .1
 
       credit-is : c ≡ plusCover (o .credit) (sizeOf (word ws (o .at + 1)))
       credit-is = cq ∙ ap (λ (x : Draw). plusCover (o .credit) (x .amount)) dq

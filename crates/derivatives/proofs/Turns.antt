@@ -4,7 +4,7 @@ use mathlib.Core.Path.{_≡_, refl, sym, _∙_, ap}
 use mathlib.Core.Bool.{Bool, true, false}
 use mathlib.Core.List.{List}
 use native.Mathlib.Omega.{arith}
-use borrow.Author.Tests.{le-ltb, lt-ltb, eq-eqb, ne-eqb, ltb-false}
+use borrow.Author.Tests.{le-ltb, lt-ltb, ne-eqb, ltb-false}
 use lib.ListN.{length}
 use Rattle.rules.specs.declared.Bands.{Bands}
 use Rattle.rules.specs.Word.{word, kindOf, sizeOf}
@@ -68,9 +68,6 @@ module _ (bands : Bands) {ws : List ℕ} {begin : ℕ} {t : Tally} {at : ℕ} (s
   none-beyond h = member-over bands ws begin t at (s .within) (simp (le-ltb at (length ws) h))
 
   module _ (h : at < length ws) {k : ℕ} (kq : k ≡ kindOf (word ws at)) where
-    pub stands-there : (kind : ℕ) → k ≡ kind → stands kind ws at ≡ true
-    stands-there kind e = simp (lt-ltb at (length ws) h, ← kq, eq-eqb k kind e)
-
     pub none-there : (k ≡ 5 → ⊥) → (k ≡ 6 → ⊥) → fromMember bands ws begin t at ≡ endsWith (gathered t at)
     unfolding memberTurn
     none-there n m = member-over bands ws begin t at (s .within) (simp (lt-ltb at (length ws) h, ← kq, ne-eqb k 5 n, ne-eqb k 6 m))

@@ -1,10 +1,10 @@
 -- What is told where an item is due, by its kind: the causes of heads, no item at all, and the end word. Assumes nothing.
 use Prim.Native.Nat.{ℕ, suc, _+_, _≤_, _<_}
 use mathlib.Core.Path.{_≡_, sym, _∙_, ap}
-use mathlib.Core.Bool.{true, cond}
+use mathlib.Core.Bool.{cond}
 use mathlib.Core.List.{List}
 use native.Mathlib.Omega.{arith}
-use borrow.Author.Tests.{le-leb, lt-leb, lt-ltb, eq-eqb, ne-eqb}
+use borrow.Author.Tests.{le-leb, lt-leb, eq-eqb, ne-eqb}
 use lib.ListN.{length, drop}
 use Rattle.rules.specs.declared.Bands.{Bands}
 use Rattle.rules.specs.declared.Sums.{Sums}
@@ -12,18 +12,15 @@ use Rattle.rules.specs.Word.{word, kindOf, payloadOf, amountsOfKind}
 use Rattle.rules.specs.Book.{Item}
 use Rattle.rules.specs.Faults.{cause}
 use Rattle.rules.specs.Run.{Turn, bad}
-use Rattle.rules.specs.Read.{lacks, recordThen, stands, assetTurn, derivativeSetTurn, offBalanceTurn, itemOf, endFault, itemTurn}
+use Rattle.rules.specs.Read.{lacks, recordThen, assetTurn, derivativeSetTurn, offBalanceTurn, itemOf, endFault, itemTurn}
+use Rattle.records.proofs.Words.{record-faulty}
 use Rattle.records.specs.Step.{assetCause, offBalanceCause}
 use Rattle.derivatives.specs.Ahead.{setCause}
 use Rattle.reading.specs.declared.Reading.the-variants.{Whole, Fault}
 use Rattle.reading.specs.Steps.{Fair}
 use Rattle.reading.specs.Ahead.{endsAt, fromItem}
 use Rattle.reading.proofs.AheadLaws.{ahead-over, ahead-bad}
-use Rattle.reading.proofs.ItemLaws.{partAt, from-is, Met, kind-here, of-kind-2, of-kind-4, of-kind-10, of-no-kind, record-faulty, halted}
-
--- as a call of `kind` gave it
-pub stands-there : (ws : List ℕ) (at k n : ℕ) → at < length ws → k ≡ kindOf (word ws at) → k ≡ n → stands n ws at ≡ true
-stands-there ws at k n h q e = simp (lt-ltb at (length ws) h, eq-eqb _ _ (sym q ∙ e))
+use Rattle.reading.proofs.ItemLaws.{partAt, from-is, Met, kind-here, of-kind-2, of-kind-4, of-kind-10, of-no-kind, halted}
 
 -- ---- a head with a fault of its own
 
@@ -31,7 +28,7 @@ module _ (bands : Bands) {ws : List ℕ} {s : Sums} {at : ℕ} (number : ℕ) (n
   record-halts : {k : ℕ} → Met ws s at k → (k ≡ 15 → ⊥) → (f : ℕ) (next : ℕ → Turn Item) → itemOf (drop at ws) ≡ recordThen (drop at ws) 0 f next
       → number ≡ cond (lacks (amountsOfKind k) (drop at ws) 0) 6 f → fromItem bands ws s at ≡ endsAt (Fault number at)
   record-halts {k} m ke f next is q =
-      halted bands m ke number n (is ∙ record-faulty (drop at ws) k (kind-here m) f next (λ z. n (q ∙ z)) ∙ ap (λ (x : ℕ). bad x 0) (sym q))
+      halted bands m ke number n (is ∙ record-faulty (drop at ws) 0 k (kind-here m) f next (λ z. n (q ∙ z)) ∙ ap (λ (x : ℕ). bad x 0) (sym q))
 
   pub asset-halts : Met ws s at 2 → number ≡ assetCause (partAt ws at) → fromItem bands ws s at ≡ endsAt (Fault number at)
   unfolding assetCause assetTurn

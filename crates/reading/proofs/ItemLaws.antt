@@ -10,7 +10,7 @@ use lib.ListN.{length, take, drop, length-drop}
 use lib.Seq.{take-all}
 use Rattle.rules.specs.declared.Bands.{Bands}
 use Rattle.rules.specs.declared.Sums.{Sums}
-use Rattle.rules.specs.Word.{word, kindOf, amountsIn, amountsOfKind}
+use Rattle.rules.specs.Word.{word, kindOf, amountsIn}
 use Rattle.rules.specs.Book.{Item}
 use Rattle.rules.specs.Run.{Turn, bad, some, sound}
 use Rattle.rules.specs.Read.{lacks, recordThen, stands, assetTurn, derivativeSetTurn, financingSetTurn, offBalanceTurn, itemOf, placed, itemTurn}
@@ -22,7 +22,6 @@ use Rattle.theorems.proofs.ItemBounds.{placedWeight, fine-item-turn}
 use Rattle.records.specs.declared.ItemStep.{ItemStep}
 use Rattle.records.specs.declared.ItemStep.the-variants.{Next, Stop}
 use Rattle.records.specs.Step.{plusItem, itemStep, Part}
-use Rattle.records.proofs.Words.{turn-lacks, turn-fault, turn-on}
 use Rattle.reading.specs.declared.Reading.the-variants.{Fault}
 use Rattle.reading.specs.Steps.{Fair}
 use Rattle.reading.specs.Ahead.{endsAt, fromItem, Onward}
@@ -86,25 +85,7 @@ module _ (ws : List ℕ) where
   unfolding itemOf
   of-no-kind k q a b c d = simp (← q, ne-eqb _ _ a, ne-eqb _ _ b, ne-eqb _ _ c, ne-eqb _ _ d)
 
--- ---- a record by its cause: 6, or what its words come to
-
-module _ {A : Type 0} (ws : List ℕ) (kind : ℕ) (k : kindOf (word ws 0) ≡ kind) (f : ℕ) (next : ℕ → Turn A) where
-  abbrev causeOf : ℕ
-  causeOf = cond (lacks (amountsOfKind kind) ws 0) 6 f
-
-  pub record-faulty : (causeOf ≡ 0 → ⊥) → recordThen ws 0 f next ≡ bad causeOf 0
-  record-faulty n = go (lacks (amountsOfKind kind) ws 0) refl n
-    where
-      go : (b : Bool) → lacks (amountsOfKind kind) ws 0 ≡ b → (cond b 6 f ≡ 0 → ⊥) → recordThen ws 0 f next ≡ bad (cond b 6 f) 0
-      go true q n = turn-lacks ws 0 kind k f next q
-      go false q n = turn-fault ws 0 kind k f next q n
-
-  pub record-good : causeOf ≡ 0 → (lacks (amountsOfKind kind) ws 0 ≡ false) × (recordThen ws 0 f next ≡ next (0 + suc (amountsOfKind kind)))
-  record-good e = go (lacks (amountsOfKind kind) ws 0) refl e
-    where
-      go : (b : Bool) → lacks (amountsOfKind kind) ws 0 ≡ b → cond b 6 f ≡ 0 → (lacks (amountsOfKind kind) ws 0 ≡ false) × (recordThen ws 0 f next ≡ next (0 + suc (amountsOfKind kind)))
-      go true q z = let z : ⊥ = omega arith in absurd z
-      go false q z = (q, turn-on ws 0 kind k f next q z)
+-- ---- a fault
 
 -- a fault at the head of an item
 pub halted : (bands : Bands) {ws : List ℕ} {s : Sums} {at k : ℕ} → Met ws s at k → (k ≡ 15 → ⊥) → (number : ℕ) → (number ≡ 0 → ⊥) → itemOf (drop at ws) ≡ bad number 0

@@ -15,10 +15,11 @@ use Rattle.rules.specs.Read.{stands, assetAt, assetTurn, offBalanceAt, offBalan
 use Rattle.rules.specs.Book.{Item, asset, offBalance}
 use Rattle.records.specs.declared.ItemStep.{ItemStep}
 use Rattle.records.specs.declared.ItemStep.the-variants.{Stop}
+use Rattle.records.proofs.Words.{record-good}
 use Rattle.records.specs.Step.{itemStep, assetCause, offBalanceCause}
 use Rattle.reading.specs.Steps.{Fair}
 use Rattle.reading.specs.Ahead.{fromItem, Onward}
-use Rattle.reading.proofs.ItemLaws.{partAt, from-is, record-good}
+use Rattle.reading.proofs.ItemLaws.{partAt, from-is}
 
 -- from a place and its sums on, so far: what lies ahead is the same
 pub record Passing (bands : Bands) (ws : List ℕ) (s : Sums) (from : ℕ) (t : Sums) (at : ℕ) : Type 0 where
@@ -57,12 +58,12 @@ module _ (ws : List ℕ) (at from : ℕ) where
     unfolding assetCause assetTurn
     left-asset k q c z =
         let i : Item = asset (assetAt (partAt ws at)) in
-        let g = record-good (partAt ws at) 2 k _ (some i 0) (ap assetCause (from-is ws at ∙ ap (λ (x : ℕ). drop x ws) z) ∙ c) in
+        let g = record-good (partAt ws at) 0 2 k _ (some i 0) (ap assetCause (from-is ws at ∙ ap (λ (x : ℕ). drop x ws) z) ∙ c) in
         good-step i 4 (q ∙ ap (itemStep bands t) (g .1))
 
     pub left-off-balance : kindOf (word (partAt ws at) 0) ≡ 10 → r ≡ itemStep bands t (offBalanceTurn (partAt ws at)) → offBalanceCause (drop from ws) ≡ 0 → at ≡ from → ⊥
     unfolding offBalanceCause offBalanceTurn
     left-off-balance k q c z =
         let i : Item = offBalance (offBalanceAt (partAt ws at)) in
-        let g = record-good (partAt ws at) 10 k _ (some i 0) (ap offBalanceCause (from-is ws at ∙ ap (λ (x : ℕ). drop x ws) z) ∙ c) in
+        let g = record-good (partAt ws at) 0 10 k _ (some i 0) (ap offBalanceCause (from-is ws at ∙ ap (λ (x : ℕ). drop x ws) z) ∙ c) in
         good-step i 2 (q ∙ ap (itemStep bands t) (g .1))

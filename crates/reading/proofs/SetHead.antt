@@ -11,12 +11,13 @@ use Rattle.rules.specs.Run.{Run, runFrom}
 use Rattle.rules.specs.Read.{memberTurn, derivativeSetAt, withMembers, derivativeSetTurn, placed, itemTurn}
 use Rattle.rules.specs.Register.{drawsOf}
 use Rattle.theorems.proofs.Records.{lacks-room}
+use Rattle.records.proofs.Words.{record-good}
 use Rattle.derivatives.specs.Gathered.{noTally}
 use Rattle.derivatives.specs.Ahead.{membersAhead, fromMember, setAhead, setCause, openedSet, SoundSet}
 use Rattle.derivatives.proofs.Entry.{item-is}
 use Rattle.reading.specs.Ahead.{after, setBehind, fromItem, fromSet}
 use Rattle.reading.proofs.AheadLaws.{ahead-some, ahead-broken}
-use Rattle.reading.proofs.ItemLaws.{partAt, from-is, Met, kind-here, turn-here, of-kind-4, record-good}
+use Rattle.reading.proofs.ItemLaws.{partAt, from-is, Met, kind-here, turn-here, of-kind-4}
 
 -- a set whose head is good: its members, and then the items
 module _ (bands : Bands) (ws : List ℕ) (s : Sums) (at : ℕ) (w : at ≤ length ws) where
@@ -38,7 +39,7 @@ unfolding setCause derivativeSetTurn fromSet setAhead fromMember
 set-opens bands {ws} {s} {at} m cause q e =
     let part = drop at ws in
     let r : Run Member = runFrom (memberTurn part) (suc (length part)) 4 in
-    let g = record-good part 4 (kind-here m) _ (λ (next : ℕ). withMembers part (runFrom (memberTurn part) (suc (length part)) next)) (ap setCause (sym (from-is ws at)) ∙ sym q ∙ e) in
+    let g = record-good part 0 4 (kind-here m) _ (λ (next : ℕ). withMembers part (runFrom (memberTurn part) (suc (length part)) next)) (ap setCause (sym (from-is ws at)) ∙ sym q ∙ e) in
     let n = length-drop at ws in
     let l = lacks-room 3 part 0 (g .0) (omega (arith, m .here)) in (
       members-then bands ws s at (m .fair .within) (r .records) (r .number) (r .place) (turn-here m (λ z. omega arith) ∙ ap (placed at) (of-kind-4 part (kind-here m) ∙ g .1)),

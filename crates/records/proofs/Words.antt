@@ -74,3 +74,22 @@ module _ (n : ℕ) (ws : List ℕ) (at f : ℕ) (l : Bool) (lq : l ≡ lacks n w
 
   pub cause-there : l ≡ false → (r : ℕ) → r ≡ f → r ≡ cond (lacks n ws at) 6 f
   cause-there e r q = q ∙ simp (← lq, e)
+
+-- and its turn by it
+module _ {A : Type 0} (ws : List ℕ) (at kind : ℕ) (k : kindOf (word ws at) ≡ kind) (f : ℕ) (next : ℕ → Turn A) where
+  abbrev causeOf : ℕ
+  causeOf = cond (lacks (amountsOfKind kind) ws at) 6 f
+
+  pub record-faulty : (causeOf ≡ 0 → ⊥) → recordThen ws at f next ≡ bad causeOf at
+  record-faulty n = go (lacks (amountsOfKind kind) ws at) refl n
+    where
+      go : (b : Bool) → lacks (amountsOfKind kind) ws at ≡ b → (cond b 6 f ≡ 0 → ⊥) → recordThen ws at f next ≡ bad (cond b 6 f) at
+      go true q n = turn-lacks ws at kind k f next q
+      go false q n = turn-fault ws at kind k f next q n
+
+  pub record-good : causeOf ≡ 0 → (lacks (amountsOfKind kind) ws at ≡ false) × (recordThen ws at f next ≡ next (at + suc (amountsOfKind kind)))
+  record-good e = go (lacks (amountsOfKind kind) ws at) refl e
+    where
+      go : (b : Bool) → lacks (amountsOfKind kind) ws at ≡ b → cond b 6 f ≡ 0 → (lacks (amountsOfKind kind) ws at ≡ false) × (recordThen ws at f next ≡ next (at + suc (amountsOfKind kind)))
+      go true q z = let z : ⊥ = omega arith in absurd z
+      go false q z = (q, turn-on ws at kind k f next q z)

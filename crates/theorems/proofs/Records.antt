@@ -6,7 +6,7 @@ use mathlib.Core.Bool.{Bool, true, false, cond}
 use mathlib.Core.List.{List}
 use native.Mathlib.Omega.{arith}
 use native.Mathlib.Nat.{add-zero}
-use borrow.Author.Tests.{ltb-true, leb-false, eqb-true}
+use borrow.Author.Tests.{lt-ltb, ltb-true, leb-false, eq-eqb, eqb-true}
 use lib.Dec.{leb, ltb}
 use lib.ListN.{length, drop}
 use lib.Seq.{getD-drop}
@@ -20,6 +20,10 @@ use Rattle.rules.proofs.Runs.{FineTurn}
 pub stands-is : (kind : ℕ) (ws : List ℕ) (at : ℕ) → stands kind ws at ≡ true → (at < length ws) × (kindOf (word ws at) ≡ kind)
 stands-is kind ws at e =
     (ltb-true _ _ (and-left (ltb at (length ws)) _ e), eqb-true _ _ (and-right (ltb at (length ws)) _ e))
+
+-- as the kind of its first word tells
+pub stands-there : (ws : List ℕ) (at kind k : ℕ) → at < length ws → k ≡ kindOf (word ws at) → k ≡ kind → stands kind ws at ≡ true
+stands-there ws at kind k h q e = simp (lt-ltb at (length ws) h, ← q, eq-eqb k kind e)
 
 -- a part of the words begins with the word at its place
 pub head-word : (ws : List ℕ) (at : ℕ) → word (drop at ws) 0 ≡ word ws at

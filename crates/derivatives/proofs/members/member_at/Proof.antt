@@ -1,4 +1,5 @@
-use Rattle.derivatives.proofs.Turns.{none-beyond, none-there, stands-there}
+use Rattle.theorems.proofs.Records.{stands-there}
+use Rattle.derivatives.proofs.Turns.{none-beyond, none-there}
 use borrow.Author.Needs.{needs}
 use Rattle.derivatives.proofs.members.member_at.Statement.{statement}
 use Rattle.derivatives.proofs.members.member_at.Tie as tie
@@ -24,7 +25,7 @@ trade-requires c κs =
     let if2 = c .if2 in
     let kind = c .before .kind in
     let if1 = c .before .before .before .if1 in
-    ((e .pre), stands-there (e .args .bands) (e .pre) (if1 .left) (kind .ensures) 5 (if2 .taken))
+    ((e .pre), stands-there (e .args .part .now) (e .args .at) 5 (kind .result) (if1 .left) (kind .ensures) (if2 .taken))
 
 returns-2 : tie.Need-returns-2
 returns-2 c = search needs
@@ -35,7 +36,7 @@ written-requires c κs =
     let if3 = c .if3 in
     let kind = c .before .before .kind in
     let if1 = c .before .before .before .before .if1 in
-    ((e .pre), stands-there (e .args .bands) (e .pre) (if1 .left) (kind .ensures) 6 (if3 .taken))
+    ((e .pre), stands-there (e .args .part .now) (e .args .at) 6 (kind .result) (if1 .left) (kind .ensures) (if3 .taken))
 
 returns-3 : tie.Need-returns-3
 returns-3 c = search needs

@@ -1,5 +1,6 @@
 use native.Mathlib.Omega.{arith}
-use Rattle.reading.proofs.HeadLaws.{stands-there, beyond, no-item}
+use Rattle.theorems.proofs.Records.{stands-there}
+use Rattle.reading.proofs.HeadLaws.{beyond, no-item}
 use borrow.Author.Needs.{needs}
 use Rattle.reading.proofs.items.item_at.Statement.{statement}
 use Rattle.reading.proofs.items.item_at.Tie as tie
@@ -22,7 +23,7 @@ assets-at-requires : tie.Need-assets-at-requires
 assets-at-requires c κs =
     let e = c .before .before .before .before .before in
     let kind = c .before .kind in
-    (e .pre, stands-there (e .args .book .now) (e .args .at) (kind .result) 2 (omega arith) (kind .ensures) (c .if2 .taken))
+    (e .pre, stands-there (e .args .book .now) (e .args .at) 2 (kind .result) (omega arith) (kind .ensures) (c .if2 .taken))
 
 returns-2 : tie.Need-returns-2
 returns-2 c = search needs
@@ -31,7 +32,7 @@ set-at-requires : tie.Need-set-at-requires
 set-at-requires c κs =
     let e = c .before .before .before .before .before .before in
     let kind = c .before .before .kind in
-    (e .pre, stands-there (e .args .book .now) (e .args .at) (kind .result) 4 (omega arith) (kind .ensures) (c .if3 .taken))
+    (e .pre, stands-there (e .args .book .now) (e .args .at) 4 (kind .result) (omega arith) (kind .ensures) (c .if3 .taken))
 
 returns-3 : tie.Need-returns-3
 returns-3 c = search needs
@@ -40,7 +41,7 @@ financing-at-requires : tie.Need-financing-at-requires
 financing-at-requires c κs =
     let e = c .before .before .before .before .before .before .before in
     let kind = c .before .before .before .kind in
-    (e .pre, stands-there (e .args .book .now) (e .args .at) (kind .result) 8 (omega arith) (kind .ensures) (c .if4 .taken))
+    (e .pre, stands-there (e .args .book .now) (e .args .at) 8 (kind .result) (omega arith) (kind .ensures) (c .if4 .taken))
 
 returns-4 : tie.Need-returns-4
 returns-4 c = search needs
@@ -49,7 +50,7 @@ off-balance-at-requires : tie.Need-off-balance-at-requires
 off-balance-at-requires c κs =
     let e = c .before .before .before .before .before .before .before .before in
     let kind = c .before .before .before .before .kind in
-    (e .pre, stands-there (e .args .book .now) (e .args .at) (kind .result) 10 (omega arith) (kind .ensures) (c .if5 .taken))
+    (e .pre, stands-there (e .args .book .now) (e .args .at) 10 (kind .result) (omega arith) (kind .ensures) (c .if5 .taken))
 
 returns-5 : tie.Need-returns-5
 returns-5 c = search needs
@@ -58,7 +59,7 @@ end-at-requires : tie.Need-end-at-requires
 end-at-requires c κs =
     let e = c .before .before .before .before .before .before .before .before .before in
     let kind = c .before .before .before .before .before .kind in
-    (e .pre, stands-there (e .args .book .now) (e .args .at) (kind .result) 15 (omega arith) (kind .ensures) (c .if6 .taken))
+    (e .pre, stands-there (e .args .book .now) (e .args .at) 15 (kind .result) (omega arith) (kind .ensures) (c .if6 .taken))
 
 returns-6 : tie.Need-returns-6
 returns-6 c = search needs
