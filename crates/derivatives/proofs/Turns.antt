@@ -1,6 +1,6 @@
 -- What stands where a member of a set is due: what lies ahead behind it, and how large the tally is. Assumes nothing.
 use Prim.Native.Nat.{ℕ, suc, _+_, _-_, _^_, _≤_, _<_}
-use mathlib.Core.Path.{_≡_, refl, sym, _∙_, ap}
+use mathlib.Core.Path.{_≡_, sym, _∙_, ap}
 use mathlib.Core.Bool.{Bool, true, false}
 use mathlib.Core.List.{List}
 use native.Mathlib.Omega.{arith}
@@ -10,10 +10,11 @@ use Rattle.rules.specs.declared.Bands.{Bands}
 use Rattle.rules.specs.Word.{word, kindOf, sizeOf}
 use Rattle.rules.specs.Book.{Member, trade, written}
 use Rattle.rules.specs.Run.{Turn, bad, some, runFrom}
-use Rattle.rules.specs.Faults.{cause, tradeFault, writtenFault}
+use Rattle.rules.specs.Faults.{tradeFault, writtenFault}
 use Rattle.rules.specs.Read.{lacks, stands, recordThen, coverTurn, withCovers, writtenTurn, tradeAt, tradeTurn, memberTurn}
 use Rattle.rules.proofs.Runs.{FineTurn}
 use Rattle.records.proofs.Words.{room, turn-lacks, turn-fault, turn-on}
+use Rattle.theorems.proofs.Valid.{cause-none}
 use Rattle.theorems.proofs.Records.{stands-is}
 use Rattle.theorems.proofs.FactorBounds.{loss-small}
 use Rattle.theorems.proofs.MemberBounds.{perWord, memberWeight, fine-member}
@@ -36,13 +37,7 @@ small-roomy s h = record {
   covered = omega (arith, s .weight);
 }
 
--- ---- a chain of causes that comes to 0: the first does not hold, and the rest comes to 0
-
-cause-none : (n : ℕ) (t : Bool) (next : ℕ) → cause (suc n) t next ≡ 0 → (t ≡ false) × (next ≡ 0)
-unfolding cause
-cause-none n true next e = let z : ⊥ = omega arith in absurd z
-cause-none n false next e = (refl, e)
-
+-- a written credit without a fault has no more loss than notional
 pub loss-under : (w value notional lossTaken days premiums f : ℕ) → f ≡ writtenFault w value notional lossTaken days premiums → f ≡ 0 → sizeOf lossTaken ≤ sizeOf notional
 unfolding writtenFault
 loss-under w value notional lossTaken days premiums f q e =

@@ -1,35 +1,28 @@
--- What the causes of number 8 and 9 leave in an item that is read: an asset's provision and deduction are within its carrying amount, a
--- financing trade's securities and receivable within its gross asset, and a cover is not of 0. Assumes nothing.
+-- What the causes of number 9 leave in an item that is read: an asset's provision and deduction are within its carrying amount, and a
+-- financing trade's securities and receivable within its gross asset. Assumes nothing.
 use Prim.Native.Nat.{ℕ, zero, suc, _+_, _≤_}
 use mathlib.Core.Path.{_≡_, refl}
 use mathlib.Core.Bool.{Bool, true, false, not, cond}
 use mathlib.Core.List.{List}
 use native.Mathlib.Omega.{arith}
-use borrow.Author.Tests.{ltb-false, eqb-false}
+use borrow.Author.Tests.{ltb-false}
 use lib.Dec.{eqb, leb, ltb}
 use lib.ListN.{length, drop}
-use Rattle.rules.specs.Word.{word, kindOf, sizeOf, faultyAmount, amountsIn}
-use Rattle.rules.specs.Book.{Cover, Member, trade, written, FinancingTrade, Item, asset, derivatives, financing, offBalance, Placed}
+use Rattle.rules.specs.Word.{word, kindOf, sizeOf, amountsIn}
+use Rattle.rules.specs.Book.{trade, FinancingTrade, Item, asset, derivatives, financing, offBalance, Placed}
 use Rattle.rules.specs.Run.{Turn, over, bad, some, ended, runFrom, sound}
-use Rattle.rules.specs.Faults.{cause, assetFault, coverFault, financingTradeFault}
-use Rattle.rules.specs.Read.{lacks, recordThen, stands, assetAt, assetTurn, coverAt, coverTurn, writtenAt, writtenTurn, tradeTurn, memberTurn, derivativeSetAt, derivativeSetTurn, financingTradeAt, financingTradeTurn, financingMemberTurn, financingSetAt, financingSetTurn, offBalanceTurn, itemOf, placed, endFault, itemTurn, protectionsOf, itemsOf}
-use Rattle.rules.proofs.Lists.{Every, or-left, or-right}
+use Rattle.rules.specs.Faults.{cause, assetFault, financingTradeFault}
+use Rattle.rules.specs.Read.{lacks, recordThen, stands, assetAt, assetTurn, derivativeSetTurn, financingTradeAt, financingTradeTurn, financingMemberTurn, financingSetAt, financingSetTurn, offBalanceTurn, itemOf, placed, endFault, itemTurn, protectionsOf, itemsOf}
+use Rattle.rules.proofs.Lists.{Every, or-left}
 use Rattle.rules.proofs.Lists
 use Rattle.rules.proofs.Runs.{TurnHas, every-run}
 
 abbrev pub ValidTrade : FinancingTrade → Type 0
 ValidTrade t = t .securities + t .receivable ≤ t .asset
 
-abbrev pub ValidCover : Cover → Type 0
-ValidCover c = 1 ≤ c .amount
-
-abbrev pub ValidMember : Member → Type 0
-ValidMember (trade t) = Unit {0}
-ValidMember (written w) = Every ValidCover (w .covers)
-
 abbrev pub ValidItem : Item → Type 0
 ValidItem (asset a) = a .provision + a .deducted ≤ a .carrying
-ValidItem (derivatives s) = Every ValidMember (s .members)
+ValidItem (derivatives s) = Unit {0}
 ValidItem (financing s) = Every ValidTrade (s .trades)
 ValidItem (offBalance o) = Unit {0}
 
@@ -83,25 +76,9 @@ valid-financing : (ws : List ℕ) → TurnHas ValidItem (financingSetTurn ws)
 unfolding financingSetTurn financingSetAt
 valid-financing ws = has-record ValidItem ws 0 _ _ (λ e n. every-run ValidTrade (financingMemberTurn ws) (valid-member ws) (suc (length ws)) n)
 
-valid-cover : (ws : List ℕ) (at : ℕ) → TurnHas ValidCover (coverTurn ws at)
-unfolding coverTurn coverAt coverFault
-valid-cover ws at =
-    has-if ValidCover (stands 7 ws at) _ over
-    (has-record ValidCover ws at _ _
-    (λ e n.
-    let a = cause-none 6 _ _ e .1 in
-    let z : sizeOf (word ws (at + 1)) ≡ 0 → ⊥ = eqb-false _ 0 (or-right (faultyAmount (word ws (at + 1))) _ (cause-none 7 _ _ a .0)) in
-    omega arith)) tt
-
-valid-trade-or-credit : (ws : List ℕ) (at : ℕ) → TurnHas ValidMember (memberTurn ws at)
-unfolding memberTurn tradeTurn writtenTurn writtenAt
-valid-trade-or-credit ws at =
-    has-if ValidMember (stands 5 ws at) _ _ (has-record ValidMember ws at _ _ (λ e n. tt))
-    (has-if ValidMember (stands 6 ws at) _ over (has-record ValidMember ws at _ _ (λ e n. every-run ValidCover (coverTurn ws) (valid-cover ws) (suc (length ws)) n)) tt)
-
 valid-derivatives : (ws : List ℕ) → TurnHas ValidItem (derivativeSetTurn ws)
-unfolding derivativeSetTurn derivativeSetAt
-valid-derivatives ws = has-record ValidItem ws 0 _ _ (λ e n. every-run ValidMember (memberTurn ws) (valid-trade-or-credit ws) (suc (length ws)) n)
+unfolding derivativeSetTurn
+valid-derivatives ws = has-record ValidItem ws 0 _ _ (λ e n. tt)
 
 valid-off-balance : (ws : List ℕ) → TurnHas ValidItem (offBalanceTurn ws)
 unfolding offBalanceTurn
