@@ -3,16 +3,21 @@ use crate::faults::cover_fault;
 use records::presence::lacking;
 use records::presence::standing;
 use rules::Draw;
+use rules::amounts;
+use rules::causes;
+use rules::kinds;
+use rules::payloads;
 use words::amount::size;
 use words::numbers::short_of;
 use words::numbers::wide;
 use words::parts::field;
 ghost use mathlib.Core.Bool.{_&&_};
 ghost use mathlib.Core.Path.{_≡_};
-ghost use Prim.Native.Nat.{_+_, _≤_, _<_, _^_};
+ghost use Prim.Native.Nat.{suc, _+_, _≤_, _<_, _^_};
 ghost use lib.ListN.{length};
 ghost use denote.Ref.{now};
 ghost use Rattle.rules.specs.Read.{stands};
+ghost use Rattle.records.specs.Readable.{Readable};
 ghost use Rattle.derivatives.specs.Ahead.{OpenIn, coverCause, drawHere, noCredit, plusCover};
 
 // The written credit whose covers are being read, if there is one and so covers are allowed: where its record stands, what its covers so
@@ -40,18 +45,18 @@ pub fn cover_due(part: &[u32], at: usize, c: OpenCredit) -> bool
     ensures { λ r. ⌜ r ≡ (c .allowed && stands 7 (now (part .entry)) at) ⌝ }
 {
     if c.allowed {
-        return standing(part, at, 7);
+        return standing(part, at, kinds::COVER);
     }
     false
 }
 
 // The number of the cause for which the cover at a place is faulty by itself, or 0.
 pub fn cover_cause(part: &[u32], at: usize) -> u32
-    requires { ⌜ (at < length (now part)) × (length (now part) ≤ 2 ^ 20) ⌝ }
+    requires { ⌜ Readable (suc at) (now part) ⌝ }
     ensures { λ r. ⌜ r ≡ coverCause (now (part .entry)) at ⌝ }
 {
-    if lacking(part, at, 1) {
-        return 6;
+    if lacking(part, at, amounts::COVER) {
+        return causes::WORDS_LACKING;
     }
     cover_fault(part[at], part[at + 1])
 }
@@ -65,11 +70,11 @@ pub fn draw_here(part: &[u32], begin: usize, at: usize, c: OpenCredit) -> Draw
     let w = part[place];
     Draw {
         at: begin + at,
-        entity: field(w, 0, 16),
-        rank: field(w, 16, 4),
+        entity: field(w, payloads::ENTITY, payloads::ENTITY_BITS),
+        rank: field(w, payloads::RANK, payloads::RANK_BITS),
         days: size(part[place + 4]),
         room: c.room,
-        protection: field(part[at], 0, 12),
+        protection: field(part[at], payloads::COVER_PLACE, payloads::COVER_PLACE_BITS),
         amount: size(part[at + 1]),
     }
 }

@@ -1,4 +1,6 @@
 // The causes 7 to 9 of the records of a derivative set (document 01, "When a book is turned away"); 0 where none fits.
+use rules::causes;
+use rules::payloads;
 use words::amount::faulty_amount;
 use words::amount::faulty_days;
 use words::amount::minus_zero;
@@ -17,35 +19,35 @@ ghost use Rattle.rules.specs.Faults.{coverFault, derivativeSetFault, tradeBitsF
 pub fn cover_fault(w: u32, amount: u32) -> u32
     ensures { λ r. ⌜ r ≡ coverFault w amount ⌝ }
 {
-    if payload(w) >= 0x1000 {
-        return 7;
+    if payload(w) >= payloads::COVER_END {
+        return causes::PAYLOAD_FAULTY;
     }
     if faulty_amount(amount) {
-        return 8;
+        return causes::AMOUNT_FAULTY;
     }
     if size(amount) == 0 {
-        return 8;
+        return causes::AMOUNT_FAULTY;
     }
-    0
+    causes::NONE
 }
 
 // Kind 4.
 pub fn derivative_set_fault(w: u32, received: u32, paid: u32, posted: u32) -> u32
     ensures { λ r. ⌜ r ≡ derivativeSetFault w received paid posted ⌝ }
 {
-    if payload(w) >= 0x40 {
-        return 7;
+    if payload(w) >= payloads::DERIVATIVE_SET_END {
+        return causes::PAYLOAD_FAULTY;
     }
     if faulty_amount(received) {
-        return 8;
+        return causes::AMOUNT_FAULTY;
     }
     if faulty_amount(paid) {
-        return 8;
+        return causes::AMOUNT_FAULTY;
     }
     if faulty_amount(posted) {
-        return 8;
+        return causes::AMOUNT_FAULTY;
     }
-    0
+    causes::NONE
 }
 
 // Kind 5.
@@ -53,38 +55,42 @@ pub fn trade_fault(w: u32, value: u32, notional: u32, days: u32, reset_days: u32
     ensures { λ r. ⌜ r ≡ tradeFault w value notional days «reset_days» ⌝ }
 {
     if trade_bits_faulty(w) {
-        return 7;
+        return causes::PAYLOAD_FAULTY;
     }
     if trade_amounts_faulty(value, notional, days, reset_days) {
-        return 8;
+        return causes::AMOUNT_FAULTY;
     }
     if resets_faulty(w, days, reset_days) {
-        return 9;
+        return causes::AMOUNTS_AT_ODDS;
     }
-    0
+    causes::NONE
 }
 
 // Bits without a meaning, or a class, payments and a reference that do not go together.
 fn trade_bits_faulty(w: u32) -> bool
     ensures { λ r. ⌜ r ≡ (leb (2 ^ 13) (payloadOf w) || tradeBitsFault (fieldOf 0 3 w) (fieldOf 3 8 w) (bitOf 12 w)) ⌝ }
 {
-    if payload(w) >= 0x2000 {
+    if payload(w) >= payloads::TRADE_END {
         return true;
     }
-    class_faulty(field(w, 0, 3), field(w, 3, 8), bit(w, 12))
+    class_faulty(
+        field(w, payloads::TRADE_CLASS, payloads::TRADE_CLASS_BITS),
+        field(w, payloads::TRADE_PAYMENTS, payloads::TRADE_PAYMENTS_BITS),
+        bit(w, payloads::TRADE_QUALIFYING),
+    )
 }
 
 // "7 is faulty"; payments are "1 to 255", of bought credit "n is 1"; "12 qualifying reference (class 5 only)".
 fn class_faulty(class: u32, payments: u32, qualifying: bool) -> bool
     ensures { λ r. ⌜ r ≡ tradeBitsFault class payments qualifying ⌝ }
 {
-    if class == 7 {
+    if class == payloads::CLASS_FAULTY {
         return true;
     }
     if payments == 0 {
         return true;
     }
-    if class == 5 {
+    if class == payloads::CLASS_BOUGHT_CREDIT {
         return payments != 1;
     }
     qualifying
@@ -114,7 +120,7 @@ fn resets_faulty(w: u32, days: u32, reset_days: u32) -> bool
     if remaining < next {
         return true;
     }
-    both(!bit(w, 11), next != remaining)
+    both(!bit(w, payloads::TRADE_RESETS), next != remaining)
 }
 
 // Of two tests that are made anyway, so that no branch hangs on a mark.
@@ -135,16 +141,16 @@ pub fn written_fault(
 ) -> u32
     ensures { λ r. ⌜ r ≡ writtenFault w value notional «loss_taken» days premiums ⌝ }
 {
-    if payload(w) >= 0x800000 {
-        return 7;
+    if payload(w) >= payloads::WRITTEN_CREDIT_END {
+        return causes::PAYLOAD_FAULTY;
     }
     if written_amounts_faulty(value, notional, loss_taken, days, premiums) {
-        return 8;
+        return causes::AMOUNT_FAULTY;
     }
     if size(notional) < size(loss_taken) {
-        return 9;
+        return causes::AMOUNTS_AT_ODDS;
     }
-    0
+    causes::NONE
 }
 
 fn written_amounts_faulty(

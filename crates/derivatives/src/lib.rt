@@ -2,9 +2,11 @@
 // that whoever holds the register can draw each cover as it is read.
 use crate::faults::derivative_set_fault;
 use records::presence::lacking;
+use rules::amounts;
+use rules::causes;
 ghost use mathlib.Core.Path.{_≡_};
 ghost use denote.Ref.{now};
-ghost use Rattle.records.specs.Step.{Part};
+ghost use Rattle.records.specs.Readable.{Readable};
 ghost use Rattle.derivatives.specs.Ahead.{setCause};
 
 pub mod covers;
@@ -16,11 +18,11 @@ pub mod tally;
 
 // The number of the cause for which the head of a set is faulty, or 0.
 pub fn set_cause(part: &[u32]) -> u32
-    requires { ⌜ Part (now part) ⌝ }
+    requires { ⌜ Readable 1 (now part) ⌝ }
     ensures { λ r. ⌜ r ≡ setCause (now (part .entry)) ⌝ }
 {
-    if lacking(part, 0, 3) {
-        return 6;
+    if lacking(part, 0, amounts::DERIVATIVE_SET) {
+        return causes::WORDS_LACKING;
     }
     derivative_set_fault(part[0], part[1], part[2], part[3])
 }

@@ -12,6 +12,10 @@ use crate::tally::Tally;
 use records::presence::lacking;
 use rules::Bands;
 use rules::Draw;
+use rules::amounts;
+use rules::causes;
+use rules::kinds;
+use rules::lengths;
 use words::amount::size;
 use words::parts::kind;
 ghost use mathlib.Core.Path.{_≡_};
@@ -52,12 +56,12 @@ fn cover(part: &[u32], begin: usize, o: OpenSet, bands: Bands) -> MemberStep
     let t = o.tally;
     let c = o.credit;
     let cause = cover_cause(part, at);
-    if cause != 0 {
+    if cause != causes::NONE {
         return MemberStep::Stop(cause, at);
     }
     let draw = draw_here(part, begin, at, c);
     let next = OpenSet {
-        at: at + 2,
+        at: at + lengths::COVER,
         tally: t,
         credit: with_cover(c, draw.amount),
     };
@@ -95,10 +99,10 @@ fn member_at(part: &[u32], begin: usize, at: usize, t: Tally, bands: Bands) -> M
         return MemberStep::End(t);
     }
     let k = kind(part[at]);
-    if k == 5 {
+    if k == kinds::TRADE {
         return trade(part, begin, at, t, bands);
     }
-    if k == 6 {
+    if k == kinds::WRITTEN_CREDIT {
         return written(part, begin, at, t, bands);
     }
     MemberStep::End(t)
@@ -110,8 +114,8 @@ fn trade(part: &[u32], begin: usize, at: usize, t: Tally, bands: Bands) -> Membe
     ensures { λ r. ⌜ (fromMember bands (now (part .entry)) begin t at ≡ stepAhead bands (now (part .entry)) begin at r)
         × SoundStep (now (part .entry)) begin at r ⌝ }
 {
-    if lacking(part, at, 4) {
-        return MemberStep::Stop(6, at);
+    if lacking(part, at, amounts::TRADE) {
+        return MemberStep::Stop(causes::WORDS_LACKING, at);
     }
     let w = part[at];
     let value = part[at + 1];
@@ -119,11 +123,11 @@ fn trade(part: &[u32], begin: usize, at: usize, t: Tally, bands: Bands) -> Membe
     let days = part[at + 3];
     let reset_days = part[at + 4];
     let fault = trade_fault(w, value, notional, days, reset_days);
-    if fault != 0 {
+    if fault != causes::NONE {
         return MemberStep::Stop(fault, at);
     }
     let next = OpenSet {
-        at: at + 5,
+        at: at + lengths::TRADE,
         tally: t.add_trade(bands, w, value, notional, days, reset_days),
         credit: no_credit(),
     };
@@ -136,8 +140,8 @@ fn written(part: &[u32], begin: usize, at: usize, t: Tally, bands: Bands) -> Mem
     ensures { λ r. ⌜ (fromMember bands (now (part .entry)) begin t at ≡ stepAhead bands (now (part .entry)) begin at r)
         × SoundStep (now (part .entry)) begin at r ⌝ }
 {
-    if lacking(part, at, 5) {
-        return MemberStep::Stop(6, at);
+    if lacking(part, at, amounts::WRITTEN_CREDIT) {
+        return MemberStep::Stop(causes::WORDS_LACKING, at);
     }
     let notional = part[at + 2];
     let loss_taken = part[at + 3];
@@ -149,7 +153,7 @@ fn written(part: &[u32], begin: usize, at: usize, t: Tally, bands: Bands) -> Mem
         part[at + 4],
         part[at + 5],
     );
-    if fault != 0 {
+    if fault != causes::NONE {
         return MemberStep::Stop(fault, at);
     }
     let credit = OpenCredit {
@@ -159,7 +163,7 @@ fn written(part: &[u32], begin: usize, at: usize, t: Tally, bands: Bands) -> Mem
         room: size(notional) - size(loss_taken),
     };
     let next = OpenSet {
-        at: at + 6,
+        at: at + lengths::WRITTEN_CREDIT,
         tally: t,
         credit: credit,
     };

@@ -1,6 +1,7 @@
 // What a derivative set puts into the rows 1 and 4 to 10.
 use crate::tally::Tally;
 use rules::Sums;
+use rules::payloads;
 use weights::addon::weighted;
 use words::amount::size;
 use words::numbers::chosen;
@@ -20,7 +21,7 @@ ghost use Rattle.derivatives.specs.Gathered.{Weighable, plusSet, replace
 fn margin_counts(w: u32) -> bool
     ensures { λ r. ⌜ r ≡ (bitOf 0 w && bitOf 1 w && bitOf 2 w && bitOf 3 w && bitOf 4 w) ⌝ }
 {
-    field(w, 0, 5) == 31
+    field(w, payloads::MARGIN, payloads::MARGIN_BITS) == payloads::MARGIN_ALL
 }
 
 // "Netting marked: replacement is N"; less what margin was received, where it counts. "Not marked: replacement G".
@@ -60,7 +61,7 @@ pub fn with_set(mut s: Sums, w: u32, received: u32, paid: u32, posted: u32, t: T
     requires { ⌜ Roomy s × Weighable t ⌝ }
     ensures { λ r. ⌜ r ≡ plusSet s (setOf w received paid posted []) t ⌝ }
 {
-    let netting = bit(w, 0);
+    let netting = bit(w, payloads::SET_NETTING);
     let counts = margin_counts(w);
     let with_margin = t.losses + chosen(counts, wide(size(received)), 0);
     let replaced = 1000 * replacement(netting, t.gains, with_margin);
@@ -72,7 +73,7 @@ pub fn with_set(mut s: Sums, w: u32, received: u32, paid: u32, posted: u32, t: T
     s.weighted = s.weighted + gross;
     s.posted = s.posted + 1000 * wide(size(posted));
     s.offset = s.offset + chosen(counts, cash_paid, 0);
-    s.exempt = s.exempt + chosen(bit(w, 5), replaced + kept, 0);
+    s.exempt = s.exempt + chosen(bit(w, payloads::SET_EXEMPT), replaced + kept, 0);
     s.written = s.written + 1000 * t.written;
     s.covered = s.covered + (1000 * t.covered + (gross - kept));
     s

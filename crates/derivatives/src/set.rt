@@ -6,6 +6,7 @@ use crate::members::member;
 use crate::tally::Tally;
 use rules::Bands;
 use rules::Draw;
+use rules::lengths;
 ghost use mathlib.Core.Path.{_≡_};
 ghost use denote.Ref.{now};
 ghost use Rattle.derivatives.specs.Ahead.{SoundSet, SoundWeighed, openedSet, setAhead, weighedAhead};
@@ -31,7 +32,7 @@ pub fn opened() -> OpenSet
     ensures { λ r. ⌜ r ≡ openedSet ⌝ }
 {
     OpenSet {
-        at: 4,
+        at: lengths::DERIVATIVE_SET,
         tally: Tally::new(),
         credit: no_credit(),
     }

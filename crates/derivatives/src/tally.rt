@@ -1,5 +1,6 @@
 // The tally of a derivative set (document 01, "Weighing a set"): "Each record adds to the tally of its set".
 use rules::Bands;
+use rules::payloads;
 use weights::factors::credit_factor;
 use weights::factors::trade_factor;
 use words::amount::gain;
@@ -92,13 +93,15 @@ fn trade_add_on(bands: Bands, w: u32, notional: u32, days: u32, reset_days: u32)
 {
     let factor = trade_factor(
         bands,
-        field(w, 0, 3),
-        bit(w, 11),
-        bit(w, 12),
+        field(w, payloads::TRADE_CLASS, payloads::TRADE_CLASS_BITS),
+        bit(w, payloads::TRADE_RESETS),
+        bit(w, payloads::TRADE_QUALIFYING),
         size(days),
         size(reset_days),
     );
-    wide(factor) * wide(field(w, 3, 8)) * wide(size(notional))
+    wide(factor)
+        * wide(field(w, payloads::TRADE_PAYMENTS, payloads::TRADE_PAYMENTS_BITS))
+        * wide(size(notional))
 }
 
 // "Written total return swap: factor times notional. Written default swap: 0 without close-out, otherwise the lesser of that
@@ -106,9 +109,17 @@ fn trade_add_on(bands: Bands, w: u32, notional: u32, days: u32, reset_days: u32)
 fn written_add_on(w: u32, notional: u32, premiums: u32) -> u64
     ensures { λ r. ⌜ r ≡ writtenAddOn (writtenOf w 0 notional 0 0 premiums []) ⌝ }
 {
-    let product = wide(credit_factor(bit(w, 20))) * wide(size(notional));
-    let bound = chosen(bit(w, 22), 1000 * wide(size(premiums)), 0);
-    chosen(bit(w, 21), product, lesser(product, bound))
+    let product = wide(credit_factor(bit(w, payloads::WRITTEN_QUALIFYING))) * wide(size(notional));
+    let bound = chosen(
+        bit(w, payloads::WRITTEN_CLOSE_OUT),
+        1000 * wide(size(premiums)),
+        0,
+    );
+    chosen(
+        bit(w, payloads::WRITTEN_TOTAL_RETURN),
+        product,
+        lesser(product, bound),
+    )
 }
 
 // What stays in of a written credit's add-on: nothing without cover, else all.

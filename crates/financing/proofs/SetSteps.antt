@@ -17,7 +17,8 @@ use Rattle.rules.specs.Read.{lacks, financingMemberTurn, financingSetAt, withTr
 use Rattle.rules.specs.Weigh.{excessOf}
 use Rattle.rules.proofs.Lists.{total-le-all}
 use Rattle.rules.proofs.Runs.{fine-run}
-use Rattle.records.specs.Step.{Part, plusItem, itemStep}
+use Rattle.records.specs.Readable.{Readable}
+use Rattle.records.specs.Step.{plusItem, itemStep}
 use Rattle.records.specs.declared.ItemStep.the-variants.{Next, Stop}
 use Rattle.records.proofs.Words.{turn-fault, turn-on}
 use Rattle.theorems.proofs.MemberBounds.{perWord, financingWeight, financing-total, fine-financing-member}
@@ -75,7 +76,7 @@ module _ (ts : List FinancingTrade) where
 
 -- ---- the set
 
-module _ (bands : Bands) (s : Sums) (ws : List ℕ) (p : Part ws) (k : kindOf (word ws 0) ≡ 8) where
+module _ (bands : Bands) (s : Sums) (ws : List ℕ) (p : Readable 1 ws) (k : kindOf (word ws 0) ≡ 8) where
   behind : ℕ → Turn Item
   behind next = withTrades ws (runFrom (financingMemberTurn ws) (suc (length ws)) next)
 
@@ -114,7 +115,7 @@ module _ (bands : Bands) (s : Sums) (ws : List ℕ) (p : Part ws) (k : kindOf (w
 
           pub set-light : Light t
           set-light =
-              let b = fine-run (length ws) perWord financingWeight (financingMemberTurn ws) (fine-financing-member ws) (suc (length ws)) 1 (p .some-word) in
+              let b = fine-run (length ws) perWord financingWeight (financingMemberTurn ws) (fine-financing-member ws) (suc (length ws)) 1 (p .within) in
               let l : total financingWeight (tradesOf ws .records) ≤ 2 ^ 61 = omega (arith, b .small, b .within, p .short) in
               rw tally-is at (light (tradesOf ws .records) fall l)
 

@@ -1,4 +1,6 @@
 // The causes 7 to 10 of a financing set and of a financing trade, by its words (document 01, "When a book is turned away").
+use rules::causes;
+use rules::payloads;
 use words::amount::faulty_amount;
 use words::amount::faulty_days;
 use words::amount::size;
@@ -15,16 +17,16 @@ ghost use Rattle.rules.specs.Word.{faultyAmount, faultyDays, sizeOf};
 pub fn financing_set_fault(w: u32) -> u32
     ensures { λ r. ⌜ r ≡ financingSetFault w ⌝ }
 {
-    if payload(w) >= 8 {
-        return 7;
+    if payload(w) >= payloads::FINANCING_SET_END {
+        return causes::PAYLOAD_FAULTY;
     }
-    if !bit(w, 2) {
-        return 0;
+    if !bit(w, payloads::FINANCING_FURTHER) {
+        return causes::NONE;
     }
-    if bit(w, 1) {
-        return 0;
+    if bit(w, payloads::FINANCING_AGENT) {
+        return causes::NONE;
     }
-    7
+    causes::PAYLOAD_FAULTY
 }
 
 pub fn financing_trade_fault(
@@ -41,19 +43,19 @@ pub fn financing_trade_fault(
 ) -> u32
     ensures { λ r. ⌜ r ≡ financingTradeFault agent «last_days» w asset securities receivable payable lent received days ⌝ }
 {
-    if payload(w) >= 2 {
-        return 7;
+    if payload(w) >= payloads::FINANCING_TRADE_END {
+        return causes::PAYLOAD_FAULTY;
     }
     if unreadable(asset, securities, receivable, payable, lent, received, days) {
-        return 8;
+        return causes::AMOUNT_FAULTY;
     }
     if at_odds(agent, asset, securities, receivable, payable) {
-        return 9;
+        return causes::AMOUNTS_AT_ODDS;
     }
     if size(days) < last_days {
-        return 10;
+        return causes::DAYS_FALL;
     }
-    0
+    causes::NONE
 }
 
 // An amount is negative, or the days are beyond 65,535.

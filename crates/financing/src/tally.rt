@@ -1,6 +1,7 @@
 // The tally of a financing set: its sums so far, and the cash of the day that is not closed yet.
 use crate::amounts::amount;
 use rules::Sums;
+use rules::payloads;
 use words::amount::size;
 use words::numbers::chosen;
 use words::numbers::less;
@@ -59,7 +60,12 @@ impl FinancingTally {
         self.lent = self.lent + amount(lent);
         self.received = self.received + amount(received);
         self.excess = self.excess + less(amount(lent), amount(received));
-        self.settle(bit(w, 0), amount(receivable), amount(payable), size(days))
+        self.settle(
+            bit(w, payloads::FINANCING_TRADE_NET_SETTLED),
+            amount(receivable),
+            amount(payable),
+            size(days),
+        )
     }
 
     // "cash netted is the lesser of summed receivables and summed payables; the days are added": a new day closes the one before.
@@ -97,12 +103,13 @@ pub fn with_set(mut s: Sums, t: FinancingTally, w: u32) -> Sums
     requires { ⌜ Roomy s × Light t ⌝ }
     ensures { λ r. ⌜ r ≡ plusSet s t w ⌝ }
 {
-    let excess = 1000 * t.excess(bit(w, 0));
+    let excess = 1000 * t.excess(bit(w, payloads::FINANCING_NETTING));
     let lent = 1000 * t.lent;
-    let agent = bit(w, 1);
+    let agent = bit(w, payloads::FINANCING_AGENT);
     s.financed = s.financed + 1000 * t.assets;
     s.netted = s.netted + 1000 * t.netted();
     s.principal = s.principal + chosen(agent, 0, excess);
-    s.agent = s.agent + (chosen(agent, excess, 0) + chosen(bit(w, 2), lent, 0));
+    s.agent = s.agent
+        + (chosen(agent, excess, 0) + chosen(bit(w, payloads::FINANCING_FURTHER), lent, 0));
     s
 }

@@ -3,14 +3,18 @@ use crate::faults::financing_trade_fault;
 use crate::tally::FinancingTally;
 use records::presence::lacking;
 use records::presence::standing;
+use rules::amounts;
+use rules::causes;
+use rules::kinds;
+use rules::lengths;
+use rules::payloads;
 use words::parts::bit;
-ghost use lib.ListN.{length};
 ghost use mathlib.Core.Path.{_≡_};
 ghost use denote.Ref.{now};
-ghost use Prim.Native.Nat.{_+_, _^_, _<_, _≤_};
+ghost use Prim.Native.Nat.{suc, _+_};
 ghost use Rattle.rules.specs.Read.{financingTradeAt};
 ghost use Rattle.rules.specs.Word.{kindOf, word};
-ghost use Rattle.records.specs.Step.{Part};
+ghost use Rattle.records.specs.Readable.{Readable};
 ghost use Rattle.financing.specs.Weighing.{Room, noTally, tallied, tradeFaultAt, tradesOf, weighedOf};
 
 // What the trades of a set come to: their tally and the place behind them, or the number and the place of the first fault.
@@ -21,30 +25,30 @@ pub enum Weighed {
 
 // The day of the tally is that of the trade before, and 0 behind the head.
 pub fn weigh(part: &[u32]) -> Weighed
-    requires { ⌜ Part (now part) × (kindOf (word (now part) 0) ≡ 8) ⌝ }
+    requires { ⌜ Readable 1 (now part) × (kindOf (word (now part) 0) ≡ 8) ⌝ }
     ensures { λ r. ⌜ r ≡ weighedOf noTally (tradesOf (now (part .entry))) ⌝ }
 {
-    let agent = bit(part[0], 1);
+    let agent = bit(part[0], payloads::FINANCING_AGENT);
     let mut t = FinancingTally::none();
-    let mut at = 1;
-    while standing(part, at, 9) {
+    let mut at = lengths::FINANCING_SET;
+    while standing(part, at, kinds::FINANCING_TRADE) {
         let fault = trade_fault(part, at, agent, t.day);
-        if fault != 0 {
+        if fault != causes::NONE {
             return Weighed::Broken(fault, at);
         }
         t = with_trade(part, at, t);
-        at += 8;
+        at += lengths::FINANCING_TRADE;
     }
     Weighed::Whole(t, at)
 }
 
 // The number of the first fault of the trade at a place, or 0.
 fn trade_fault(part: &[u32], at: usize, agent: bool, last_days: u32) -> u32
-    requires { ⌜ (at < length (now part)) × (length (now part) ≤ 2 ^ 20) ⌝ }
+    requires { ⌜ Readable (suc at) (now part) ⌝ }
     ensures { λ r. ⌜ r ≡ tradeFaultAt agent «last_days» (now (part .entry)) at ⌝ }
 {
-    if lacking(part, at, 7) {
-        return 6;
+    if lacking(part, at, amounts::FINANCING_TRADE) {
+        return causes::WORDS_LACKING;
     }
     financing_trade_fault(
         agent,
@@ -62,7 +66,7 @@ fn trade_fault(part: &[u32], at: usize, agent: bool, last_days: u32) -> u32
 
 // The tally with the trade at a place, which has no fault.
 fn with_trade(part: &[u32], at: usize, t: FinancingTally) -> FinancingTally
-    requires { ⌜ (at + 7 < length (now part)) × ((length (now part) ≤ 2 ^ 20) × Room t) ⌝ }
+    requires { ⌜ Readable (at + 8) (now part) × Room t ⌝ }
     ensures { λ r. ⌜ r ≡ tallied t (financingTradeAt (now (part .entry)) at) ⌝ }
 {
     t.add(

@@ -19,6 +19,7 @@ use Rattle.rules.specs.Rows.{sumsOf}
 use Rattle.rules.specs.Filing.{Outcome, early, refused, accepted, judged, recordsOutcome, admission, registerAfter}
 use Rattle.rules.proofs.Lists.{or-left, or-right}
 use Rattle.theorems.proofs.Settling.{settle-one, settle-none}
+use Rattle.records.specs.Readable.{Readable}
 use Rattle.reading.specs.declared.Reading.{Reading}
 use Rattle.reading.specs.declared.Reading.the-variants.{Whole, Fault}
 use Rattle.reading.specs.Steps.{readingOf}
@@ -54,8 +55,7 @@ refused-early ws entries r q n = rw q (go (ltb (2 ^ 20) (length ws)) (headFaulty
 
 -- what is known where the records are looked at
 pub record Looked (ws : List ℕ) (entries : ℕ) : Type 0 where
-  pub short : length ws ≤ 2 ^ 20
-  pub words : firstRecord ≤ length ws
+  pub readable : Readable firstRecord ws
   pub count : headOf ws .protections ≤ 4096
   pub room : headOf ws .protections ≤ entries
   pub outcome : admission ws entries ≡ recordsOutcome ws
@@ -69,7 +69,7 @@ looked-at ws entries r q z = go (ltb (2 ^ 20) (length ws)) refl (headFaulty ws) 
     go false e true f c g h = let o : ⊥ = omega arith in absurd o
     go false e false f true g h = let o : ⊥ = omega arith in absurd o
     go false e false f false g h =
-        record { short = ltb-false _ _ e; words = head-good ws f .0; count = head-good ws f .1; room = ltb-false _ _ g; outcome = simp (e, f, g) }
+        record { readable = record { within = head-good ws f .0; short = ltb-false _ _ e }; count = head-good ws f .1; room = ltb-false _ _ g; outcome = simp (e, f, g) }
 
 -- ---- what the draws leave
 

@@ -7,6 +7,7 @@ use crate::stages::is_fault;
 use register::clear;
 use register::settle;
 use rules::Entry;
+use rules::causes;
 ghost use mathlib.Core.Path.{_≡_};
 ghost use lib.ListN.{length};
 ghost use Rattle.rules.specs.Read.{headOf};
@@ -19,7 +20,7 @@ pub fn admit(book: &[u32], register: &mut [Entry]) -> Admission
         × (now (register .exit) ≡ registerAfter (headOf (now (book .entry))) (admission (now (book .entry)) (length (now (register .entry)))) (now (register .entry))) ⌝ }
 {
     let number = early(book, register.len());
-    if number != 0 {
+    if number != causes::NONE {
         return Admission::Early(number);
     }
     let b = protections_of(book);

@@ -2,6 +2,7 @@
 use crate::Answer;
 use crate::file::file;
 use rules::Entry;
+use rules::limits;
 ghost use mathlib.Core.Path.{_≡_};
 ghost use lib.ListN.{replicate};
 ghost use Rattle.rules.specs.Register.{blank};
@@ -17,6 +18,6 @@ pub fn file_alone(book: &[u32], rows: &mut [i64]) -> Answer
         rank: 0,
         days: 0,
         left: 0,
-    }; 1024];
+    }; limits::OWN_ENTRIES];
     file(book, rows, &mut register)
 }

@@ -1,5 +1,8 @@
 // The refusals before the records.
 use reading::head::head_faulty;
+use rules::causes;
+use rules::lengths;
+use rules::limits;
 use words::amount::gain;
 use words::amount::loss;
 use words::parts::payload;
@@ -22,23 +25,23 @@ pub fn protections_of(book: &[u32]) -> usize
 pub fn early(book: &[u32], entries: usize) -> u32
     ensures { λ r. ⌜ r ≡ earlyNumber (now (book .entry)) entries ⌝ }
 {
-    if book.len() > 1048576 {
-        return 2;
+    if book.len() > limits::BOOK_WORDS {
+        return causes::BOOK_LONG;
     }
     if head_faulty(book) {
-        return 3;
+        return causes::HEAD_FAULTY;
     }
     if entries < protections_of(book) {
-        return 4;
+        return causes::REGISTER_SHORT;
     }
-    0
+    causes::NONE
 }
 
 // Tier 1 as a gain and a loss.
 pub fn tier1_gain(book: &[u32]) -> u32
     ensures { λ r. ⌜ r ≡ headOf (now (book .entry)) .gain ⌝ }
 {
-    if book.len() < 2 {
+    if book.len() < lengths::HEAD {
         return gain(0);
     }
     gain(book[1])
@@ -47,7 +50,7 @@ pub fn tier1_gain(book: &[u32]) -> u32
 pub fn tier1_loss(book: &[u32]) -> u32
     ensures { λ r. ⌜ r ≡ headOf (now (book .entry)) .loss ⌝ }
 {
-    if book.len() < 2 {
+    if book.len() < lengths::HEAD {
         return loss(0);
     }
     loss(book[1])

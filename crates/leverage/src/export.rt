@@ -2,9 +2,13 @@
 use crate::Answer;
 use crate::file::file;
 use rules::Entry;
+use rules::verdicts;
 ghost use mathlib.Core.Path.{_≡_};
 ghost use Rattle.rules.specs.Filing.{filing};
 ghost use Rattle.leverage.specs.Answers.{packed, packedAnswer};
+
+// The verdict of a refused book, in its place.
+const REFUSED: u64 = 256 * (verdicts::REFUSED as u64);
 
 // Number, verdict and place in one number: the number in bits 0-7, the verdict in bits 8-15, the place from bit 16 on.
 fn pack(a: Answer) -> u64
@@ -12,7 +16,7 @@ fn pack(a: Answer) -> u64
 {
     match a {
         Answer::Refused(number, place) => number as u64
-            + 256 * 3
+            + REFUSED
             + 65536 * (place as u64 % 4294967296),
         Answer::Accepted(verdict) => 256 * (verdict as u64),
     }

@@ -3,6 +3,8 @@ use crate::Answer;
 use crate::admit::admit;
 use crate::report::report;
 use rules::Entry;
+use rules::causes;
+use rules::limits;
 ghost use mathlib.Core.Path.{_≡_};
 ghost use Rattle.rules.specs.Filing.{filing};
 ghost use Rattle.leverage.specs.Answers.{filed};
@@ -12,8 +14,8 @@ ghost use Rattle.leverage.specs.Answers.{filed};
 pub fn file(book: &[u32], rows: &mut [i64], register: &mut [Entry]) -> Answer
     ensures { λ r. ⌜ filed r (now (rows .exit)) (now (register .exit)) ≡ filing (now (book .entry)) (now (rows .entry)) (now (register .entry)) ⌝ }
 {
-    if rows.len() < 22 {
-        return Answer::Refused(1, 0);
+    if rows.len() < limits::ROWS {
+        return Answer::Refused(causes::ROWS_SHORT, 0);
     }
     let a = admit(book, register);
     report(book, rows, a)

@@ -3,14 +3,15 @@ use leverage::Answer;
 use leverage::alone::file_alone;
 use libc::STDIN_FILENO;
 use libc::STDOUT_FILENO;
+use rules::limits;
 use streams::end_line;
 use streams::gather;
 use streams::print_signed;
 
 // "22 lines of row number, space, value"
-fn print_rows(rows: [i64; 22]) {
+fn print_rows(rows: [i64; limits::ROWS]) {
     let mut k = 0;
-    while k < 22 {
+    while k < limits::ROWS {
         io::print_decimal(STDOUT_FILENO, k as u64 + 1);
         io::write_all(STDOUT_FILENO, b" ");
         print_signed(rows[k]);
@@ -47,7 +48,7 @@ fn main() {
     }
     let mut words = [0u32; 16384];
     gather(&bytes, &mut words, n / 4);
-    let mut rows = [0i64; 22];
+    let mut rows = [0i64; limits::ROWS];
     match file_alone(&words[..n / 4], &mut rows) {
         Answer::Refused(number, place) => print_refused(number, place),
         Answer::Accepted(verdict) => {

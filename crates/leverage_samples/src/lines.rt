@@ -1,6 +1,8 @@
 // The lines that are written.
 use leverage::Answer;
 use libc::STDOUT_FILENO;
+use rules::causes;
+use rules::verdicts;
 use streams::end_line;
 use streams::print_signed;
 
@@ -15,8 +17,8 @@ fn print_three(number: u32, place: usize, verdict: u32) {
 // "number 0, place 0 and the verdict (3 on refusal)"
 fn print_answer(a: Answer) {
     match a {
-        Answer::Refused(number, place) => print_three(number, place, 3),
-        Answer::Accepted(verdict) => print_three(0, 0, verdict),
+        Answer::Refused(number, place) => print_three(number, place, verdicts::REFUSED),
+        Answer::Accepted(verdict) => print_three(causes::NONE, 0, verdict),
     }
 }
 

@@ -6,6 +6,7 @@
 mod lines;
 mod sample;
 
+use rules::limits;
 use sample::file_next;
 
 // Files book after book; how many there were.
@@ -20,9 +21,9 @@ fn file_each(fd: i32, bytes: &mut [u8], words: &mut [u32], rows: &mut [i64]) -> 
 fn file_all(fd: i32) -> u64 {
     let mut bytes = [0u8; 65536];
     // a word more than a book may have, so that one is too long
-    let mut words = [0u32; 1048577];
+    let mut words = [0u32; limits::BOOK_WORDS + 1];
     // two rows more than a filing writes
-    let mut rows = [-1i64; 24];
+    let mut rows = [-1i64; limits::ROWS + 2];
     file_each(fd, &mut bytes, &mut words, &mut rows)
 }
 

@@ -25,8 +25,8 @@ use Rattle.reading.specs.Ahead.{endsAt, after, itemsAhead, fromItem, Onw
 pub roomy : {ws : List ℕ} {s : Sums} {at : ℕ} → Fair ws s at → Roomy s
 unfolding allSums
 roomy f =
-    let w = f .within in
-    let h = f .short in
+    let w = f .readable .within in
+    let h = f .readable .short in
     let l = f .small in
     record {
       assets = omega arith;
@@ -84,11 +84,11 @@ pub onward : (bands : Bands) (ws : List ℕ) (s : Sums) (at : ℕ) → Fair ws s
     → Onward bands ws s at (plusItem bands s (p .item)) next
 unfolding allSums
 onward bands ws s at f p next e d =
-    let w = f .within in
+    let w = f .readable .within in
     let fine : FineTurn (length ws) perWord (placedWeight bands) at (some p 0 next) = rw e at (fine-item-turn bands ws at w) in
     let small = f .small in
     record {
       same = rw d at (ahead-some bands ws s at w p next e);
-      fair = record { within = fine .1; short = f .short; small = omega (arith, fine .2, rows-at-most bands (p .item)) };
+      fair = record { readable = record { within = fine .1; short = f .readable .short }; small = omega (arith, fine .2, rows-at-most bands (p .item)) };
       further = fine .0;
     }

@@ -42,10 +42,10 @@ setCursor at s o = record { begun = true; inside = true; at = at; sums = s; set 
 
 module _ {ws : List ℕ} {c : Cursor} (so : Sound ws c) where
   pub sound-item : {at : ℕ} {s : Sums} (o : OpenSet) → Fair ws s at → Sound ws (itemCursor at s o)
-  sound-item o f = record { words = so .words; short = so .short; fair = λ b. f; set = λ b i. let z : _≡_ {A = ℕ} 0 1 = cc in absurd (omega arith) }
+  sound-item o f = record { readable = so .readable; fair = λ b. f; set = λ b i. let z : _≡_ {A = ℕ} 0 1 = cc in absurd (omega arith) }
 
   pub sound-set : {at : ℕ} {s : Sums} {o : OpenSet} → Fair ws s at → SoundSet (drop at ws) at o → Sound ws (setCursor at s o)
-  sound-set f t = record { words = so .words; short = so .short; fair = λ b. f; set = λ b i. t }
+  sound-set f t = record { readable = so .readable; fair = λ b. f; set = λ b i. t }
 
 module _ (ws : List ℕ) (c : Cursor) where
   pub ahead-first : c .begun ≡ false → ahead ws c ≡ recordsAhead ws
@@ -84,7 +84,7 @@ module _ {ws : List ℕ} {c : Cursor} (so : Sound ws c) (b : c .begun ≡ true) 
   unfolding ahead
   step-more sums next e o =
       let f : Fair ws sums next × (c .at < next) = rw e at (q .1) in
-      (rw e at told, (sound-item so o (f .0), omega (arith, left-item ws c b i, f .0 .within, f .1)))
+      (rw e at told, (sound-item so o (f .0), omega (arith, left-item ws c b i, f .0 .readable .within, f .1)))
 
   pub step-set : r ≡ Set → (o : OpenSet) → o ≡ openedSet → Right ws c (On (setCursor (c .at) (c .sums) o))
   unfolding ahead
@@ -100,7 +100,7 @@ module _ {ws : List ℕ} {c : Cursor} (so : Sound ws c) (b : c .begun ≡ true) 
 
 -- ---- past the protections
 
-protections-within : (ws : List ℕ) → 2 ≤ length ws → protectionsOf ws .place ≤ length ws
+protections-within : (ws : List ℕ) → firstRecord ≤ length ws → protectionsOf ws .place ≤ length ws
 unfolding protectionsOf
 protections-within ws l = fine-run (length ws) perWord nothing (protectionTurn ws) (fine-protection ws) (headOf ws .protections) firstRecord l .within
 
@@ -130,8 +130,8 @@ module _ {ws : List ℕ} {c : Cursor} (so : Sound ws c) (b : c .begun ≡ false)
           → Right ws c (On (itemCursor at noSums o))
       go true h w =
           let y : protectionsOf ws .place ≡ at = cc in
-          let l : at ≤ length ws = rw (← y) (protections-within ws (so .words)) in
-          (ahead-first ws c b ∙ simp (h, y, zero-add), (sound-item so o (record { within = l; short = so .short; small = omega arith }), omega (arith, left-first ws c b, l)))
+          let l : at ≤ length ws = rw (← y) (protections-within ws (so .readable .within)) in
+          (ahead-first ws c b ∙ simp (h, y, zero-add), (sound-item so o (record { readable = record { within = l; short = so .readable .short }; small = omega arith }), omega (arith, left-first ws c b, l)))
       go false h w = let z : _≡_ {A = ℕ} 0 1 = cc in absurd (omega arith)
 
 -- ---- step by step

@@ -48,7 +48,7 @@ module _ (bands : Bands) (ws : List ℕ) (s : Sums) (at : ℕ) (f : Fair ws s at
   -- behind the last word
   pub beyond : length ws ≤ at → fromItem bands ws s at ≡ endsAt (Fault 14 (length ws))
   unfolding itemTurn
-  beyond h = ahead-bad bands ws s at (f .within) 14 (length ws) (λ z. omega arith) (simp (le-leb _ _ h))
+  beyond h = ahead-bad bands ws s at (f .readable .within) 14 (length ws) (λ z. omega arith) (simp (le-leb _ _ h))
 
   -- a kind that is none of an item
   pub no-item : at < length ws → (k : ℕ) → k ≡ kindOf (word ws at) → (k ≡ 2 → ⊥) → (k ≡ 4 → ⊥) → (k ≡ 8 → ⊥) → (k ≡ 10 → ⊥) → (k ≡ 15 → ⊥)
@@ -62,7 +62,7 @@ module _ (bands : Bands) (ws : List ℕ) (s : Sums) (at : ℕ) (f : Fair ws s at
 module _ (bands : Bands) {ws : List ℕ} {s : Sums} {at : ℕ} (m : Met ws s at 15) (p : ℕ) (q : p ≡ payloadOf (word ws at)) where
   miscounted : endFault ws at ≡ 14 → fromItem bands ws s at ≡ endsAt (Fault 14 at)
   unfolding itemTurn
-  miscounted e = ahead-bad bands ws s at (m .fair .within) 14 at (λ z. omega arith) (simp (lt-leb _ _ (m .here), m .kind, e))
+  miscounted e = ahead-bad bands ws s at (m .fair .readable .within) 14 at (λ z. omega arith) (simp (lt-leb _ _ (m .here), m .kind, e))
 
   pub end-miscounted : (p ≡ at → ⊥) → fromItem bands ws s at ≡ endsAt (Fault 14 at)
   unfolding endFault cause
@@ -74,4 +74,4 @@ module _ (bands : Bands) {ws : List ℕ} {s : Sums} {at : ℕ} (m : Met ws s at 
 
   pub end-good : p ≡ at → length ws ≡ at + 1 → fromItem bands ws s at ≡ endsAt (Whole s at)
   unfolding itemTurn endFault cause
-  end-good e l = ahead-over bands ws s at (m .fair .within) (simp (lt-leb _ _ (m .here), m .kind, ← q, eq-eqb _ _ e, eq-eqb (length ws) (suc at) (omega arith)))
+  end-good e l = ahead-over bands ws s at (m .fair .readable .within) (simp (lt-leb _ _ (m .here), m .kind, ← q, eq-eqb _ _ e, eq-eqb (length ws) (suc at) (omega arith)))

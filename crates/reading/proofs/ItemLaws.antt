@@ -21,7 +21,8 @@ use Rattle.theorems.proofs.MemberBounds.{perWord}
 use Rattle.theorems.proofs.ItemBounds.{placedWeight, fine-item-turn}
 use Rattle.records.specs.declared.ItemStep.{ItemStep}
 use Rattle.records.specs.declared.ItemStep.the-variants.{Next, Stop}
-use Rattle.records.specs.Step.{plusItem, itemStep, Part}
+use Rattle.records.specs.Readable.{Readable}
+use Rattle.records.specs.Step.{plusItem, itemStep}
 use Rattle.reading.specs.declared.Reading.the-variants.{Fault}
 use Rattle.reading.specs.Steps.{Fair}
 use Rattle.reading.specs.Ahead.{endsAt, fromItem, Onward}
@@ -47,10 +48,10 @@ pub met : {ws : List ℕ} {s : Sums} {at : ℕ} (k : ℕ) → Fair ws s at → s
 met {ws = ws} {at = at} k f e = let h = stands-is k ws at e in record { fair = f; here = h .0; kind = h .1 }
 
 module _ {ws : List ℕ} {s : Sums} {at k : ℕ} (m : Met ws s at k) where
-  pub part-of : Part (partAt ws at)
+  pub part-of : Readable 1 (partAt ws at)
   part-of =
       let n : length (partAt ws at) ≡ length ws - at = ap length (from-is ws at) ∙ length-drop at ws in
-      record { some-word = omega (arith, n, m .here); short = omega (arith, n, m .fair .short) }
+      record { within = omega (arith, n, m .here); short = omega (arith, n, m .fair .readable .short) }
 
   pub kind-here : kindOf (word (drop at ws) 0) ≡ k
   kind-here = ap kindOf (head-word ws at) ∙ m .kind
@@ -91,7 +92,7 @@ module _ (ws : List ℕ) where
 pub halted : (bands : Bands) {ws : List ℕ} {s : Sums} {at k : ℕ} → Met ws s at k → (k ≡ 15 → ⊥) → (number : ℕ) → (number ≡ 0 → ⊥) → itemOf (drop at ws) ≡ bad number 0
     → fromItem bands ws s at ≡ endsAt (Fault number at)
 halted bands {ws} {s} {at} m ke number n e =
-    ahead-bad bands ws s at (m .fair .within) number (at + 0) n (turn-here m ke ∙ ap (placed at) e) ∙ ap (λ (p : ℕ). endsAt (Fault number p)) (add-zero at)
+    ahead-bad bands ws s at (m .fair .readable .within) number (at + 0) n (turn-here m ke ∙ ap (placed at) e) ∙ ap (λ (p : ℕ). endsAt (Fault number p)) (add-zero at)
 
 -- ---- items without draws
 
@@ -130,7 +131,7 @@ module _ (bands : Bands) {ws : List ℕ} {s : Sums} {at k : ℕ} (m : Met ws s a
   step = q ∙ ap (λ (p : List ℕ). itemStep bands s (turn p)) (from-is ws at)
 
   fine : FineTurn (length ws) perWord (placedWeight bands) at (placed at (turn (drop at ws)))
-  fine = rw here at (fine-item-turn bands ws at (m .fair .within))
+  fine = rw here at (fine-item-turn bands ws at (m .fair .readable .within))
 
   next-of : (t : Turn Item) → Plain t → itemTurn ws at ≡ placed at t → (sums : Sums) (next : ℕ) → itemStep bands s t ≡ Next sums next → Onward bands ws s at sums (at + next)
   next-of t bads h sums next e = let z : _≡_ {A = ℕ} 0 1 = cc in absurd (omega arith)
@@ -148,12 +149,12 @@ module _ (bands : Bands) {ws : List ℕ} {s : Sums} {at k : ℕ} (m : Met ws s a
   stop-of t (bads {number = n} {place = p}) h f number place e =
       let a : suc n ≡ number = cc in
       let b : p ≡ place = cc in
-      rw (← a, ← b) (f .1, ahead-bad bands ws s at (m .fair .within) (suc n) (at + p) (λ z. omega arith) h)
+      rw (← a, ← b) (f .1, ahead-bad bands ws s at (m .fair .readable .within) (suc n) (at + p) (λ z. omega arith) h)
   stop-of t (somes {number = zero} d) h f number place e = let z : _≡_ {A = ℕ} 0 1 = cc in absurd (omega arith)
   stop-of t (somes {i} {number = suc n} {place = p} d) h f number place e =
       let a : suc n ≡ number = cc in
       let b : p ≡ place = cc in
-      rw (← a, ← b) (f .1, rw (d at) at (ahead-broken bands ws s at (m .fair .within) _ n (at + p) h))
+      rw (← a, ← b) (f .1, rw (d at) at (ahead-broken bands ws s at (m .fair .readable .within) _ n (at + p) h))
 
   pub item-stop : (number place : ℕ) → r ≡ Stop number place → (at + place ≤ length ws) × (fromItem bands ws s at ≡ endsAt (Fault number (at + place)))
   item-stop number place e = stop-of (turn (drop at ws)) plain here fine number place (sym step ∙ e)

@@ -25,8 +25,7 @@ fair-with-set {s = s} f w received paid posted t place l h =
     let small = f .small in
     let weight = l .weight in
     record {
-      within = h;
-      short = f .short;
+      readable = record { within = h; short = f .readable .short };
       small = omega (
         arith,
         replacement-at-most d (tallyBy t),

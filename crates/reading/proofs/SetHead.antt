@@ -42,9 +42,9 @@ set-opens bands {ws} {s} {at} m cause q e =
     let g = record-good part 0 4 (kind-here m) _ (λ (next : ℕ). withMembers part (runFrom (memberTurn part) (suc (length part)) next)) (ap setCause (sym (from-is ws at)) ∙ sym q ∙ e) in
     let n = length-drop at ws in
     let l = lacks-room 3 part 0 (g .0) (omega (arith, m .here)) in (
-      members-then bands ws s at (m .fair .within) (r .records) (r .number) (r .place) (turn-here m (λ z. omega arith) ∙ ap (placed at) (of-kind-4 part (kind-here m) ∙ g .1)),
+      members-then bands ws s at (m .fair .readable .within) (r .records) (r .number) (r .place) (turn-here m (λ z. omega arith) ∙ ap (placed at) (of-kind-4 part (kind-here m) ∙ g .1)),
       record {
-        short = omega (arith, m .fair .short, m .here);
+        short = omega (arith, m .fair .readable .short, m .here);
         within = omega arith;
         small = record { weight = omega arith; losses = omega arith; uncovered = omega arith };
         credit = λ z. let n : _≡_ {A = ℕ} 0 1 = cc in absurd (omega arith);

@@ -54,10 +54,10 @@ module _ {ws : List ℕ} {c : Cursor} (so : Sound ws c) (b : c .begun ≡ true) 
     set-there =
         let l = tally-there in
         let w = l .0 .weight in
-        (omega arith, rw (from-is ws (c .at)) (l .1), omega (arith, l .1, length-drop (c .at) ws, so .fair b .within))
+        (omega arith, rw (from-is ws (c .at)) (l .1), omega (arith, l .1, length-drop (c .at) ws, so .fair b .readable .within))
 
     pub set-roomy : Roomy (c .sums) × Weighable t
-    set-roomy = (roomy (so .fair b), weighable (tally-there .0) (omega (arith, set-there .2, so .short)))
+    set-roomy = (roomy (so .fair b), weighable (tally-there .0) (omega (arith, set-there .2, so .readable .short)))
 
     pub step-whole : (s : Sums) → s ≡ plusSet (c .sums) (setOf (word (partAt ws (c .at)) 0) (word (partAt ws (c .at)) 1) (word (partAt ws (c .at)) 2) (word (partAt ws (c .at)) 3) []) t
         → (o : OpenSet) → Right ws c (On (itemCursor (c .at + place) s o))
@@ -76,7 +76,7 @@ module _ {ws : List ℕ} {c : Cursor} (so : Sound ws c) (b : c .begun ≡ true) 
     pub fault-there : c .at + place ≤ length ws
     fault-there =
         let l : place ≤ length (drop (c .at) ws) = rw e at (weighed .1) in
-        omega (arith, l, length-drop (c .at) ws, so .fair b .within)
+        omega (arith, l, length-drop (c .at) ws, so .fair b .readable .within)
 
     pub step-refused : Right ws c (Ended (Fault number (c .at + place)))
     step-refused = (rw e at told, tt)

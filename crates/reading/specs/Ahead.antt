@@ -12,9 +12,10 @@ use Rattle.rules.specs.declared.Sums.{Sums}
 use Rattle.rules.specs.Word.{word}
 use Rattle.rules.specs.Book.{Placed}
 use Rattle.rules.specs.Run.{Run, runFrom}
-use Rattle.rules.specs.Read.{headOf, itemTurn, itemsOf}
+use Rattle.rules.specs.Read.{firstRecord, headOf, itemTurn, itemsOf}
 use Rattle.rules.specs.Register.{drawsOver}
 use Rattle.rules.specs.Rows.{row1, row2, row4, row5, row6, row7, row8, row9, row10, row12, row13, row14, row15, row17, row18, sumOver}
+use Rattle.records.specs.Readable.{Readable}
 use Rattle.derivatives.specs.declared.set.OpenSet.{OpenSet}
 use Rattle.derivatives.specs.Gathered.{plusSet, setOf}
 use Rattle.derivatives.specs.Ahead.{Ending, gathered, broken, SetAhead, setAhead, openedSet, SoundSet}
@@ -114,12 +115,11 @@ noSums = record {
 }
 
 abbrev pub startCursor : Cursor
-startCursor = record { begun = false; inside = false; at = 2; sums = noSums; set = openedSet }
+startCursor = record { begun = false; inside = false; at = firstRecord; sums = noSums; set = openedSet }
 
 -- a cursor of a book: sums and tally are as large as its words allow
 pub record Sound (ws : List ℕ) (c : Cursor) : Type 0 where
-  pub words : 2 ≤ length ws
-  pub short : length ws ≤ 2 ^ 20
+  pub readable : Readable firstRecord ws
   pub fair : c .begun ≡ true → Fair ws (c .sums) (c .at)
   pub set : c .begun ≡ true → c .inside ≡ true → SoundSet (drop (c .at) ws) (c .at) (c .set)
 

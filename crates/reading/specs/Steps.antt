@@ -3,12 +3,12 @@ use Prim.Native.Nat.{ℕ, zero, suc, _+_, _*_, _^_, _≤_}
 use mathlib.Core.Bool.{cond}
 use mathlib.Core.List.{List}
 use lib.Dec.{eqb}
-use lib.ListN.{length}
 use Rattle.rules.specs.declared.Bands.{Bands}
 use Rattle.rules.specs.declared.Sums.{Sums}
 use Rattle.rules.specs.Book.{Protection, Placed}
 use Rattle.rules.specs.Run.{Turn, over, bad, some, Run}
 use Rattle.rules.specs.Rows.{sumsOf}
+use Rattle.records.specs.Readable.{Readable}
 use Rattle.reading.specs.declared.protections.Protections.{Protections}
 use Rattle.reading.specs.declared.protections.Protections.the-variants.{Upto, Wrong}
 use Rattle.reading.specs.declared.Reading.{Reading}
@@ -34,8 +34,7 @@ allSums s =
 
 -- sums as they can be at a place of a book: at most 2 ^ 41 for each word before it
 pub record Fair (ws : List ℕ) (s : Sums) (at : ℕ) : Type 0 where
-  pub within : at ≤ length ws
-  pub short : length ws ≤ 2 ^ 20
+  pub readable : Readable at ws
   pub small : allSums s ≤ 2 ^ 41 * at
 
 -- ---- the book

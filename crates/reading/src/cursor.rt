@@ -7,6 +7,7 @@ use derivatives::set::OpenSet;
 use derivatives::set::opened;
 use rules::Draw;
 use rules::Sums;
+use rules::limits;
 ghost use mathlib.Core.Path.{_≡_};
 ghost use denote.Ref.{now};
 ghost use Rattle.reading.specs.Ahead.{Sound, SoundFound, ahead, foundAhead, noDraw, noSums, startCursor};
@@ -57,7 +58,7 @@ pub fn start() -> Cursor
     Cursor {
         begun: false,
         inside: false,
-        at: 2,
+        at: limits::FIRST_RECORD,
         sums: no_sums(),
         set: opened(),
     }

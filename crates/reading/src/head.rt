@@ -1,5 +1,8 @@
 // Kind 1, the head, and its Tier 1.
 use rules::Bands;
+use rules::kinds;
+use rules::lengths;
+use rules::limits;
 use words::amount::minus_zero;
 use words::parts::kind;
 use words::parts::payload;
@@ -11,18 +14,18 @@ ghost use Rattle.rules.specs.Read.{headFaulty, headOf};
 pub fn head_faulty(book: &[u32]) -> bool
     ensures { λ r. ⌜ r ≡ headFaulty (now (book .entry)) ⌝ }
 {
-    if book.len() < 2 {
+    if book.len() < lengths::HEAD {
         return true;
     }
     let head = book[0];
-    if kind(head) != 1 {
+    if kind(head) != kinds::HEAD {
         return true;
     }
-    if payload(head) > 4096 {
+    if payload(head) > limits::PROTECTIONS {
         return true;
     }
     let tier1 = book[1];
-    if kind(tier1) != 0 {
+    if kind(tier1) != kinds::AMOUNT {
         return true;
     }
     minus_zero(tier1)

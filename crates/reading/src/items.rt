@@ -8,6 +8,8 @@ use records::assets::asset_cause;
 use records::commitments::off_balance_cause;
 use rules::Bands;
 use rules::Sums;
+use rules::causes;
+use rules::kinds;
 use words::parts::kind;
 use words::parts::payload;
 ghost use mathlib.Core.Path.{_≡_};
@@ -31,25 +33,25 @@ pub fn item_at(book: &[u32], at: usize, s: Sums, bands: Bands) -> ItemAnswer
     ensures { λ r. ⌜ (fromItem bands (now (book .entry)) s at ≡ answerAhead bands (now (book .entry)) s at r) × SoundAnswer (now (book .entry)) at r ⌝ }
 {
     if book.len() <= at {
-        return ItemAnswer::Halt(14, book.len());
+        return ItemAnswer::Halt(causes::END_FAULTY, book.len());
     }
     let k = kind(book[at]);
-    if k == 2 {
+    if k == kinds::ASSET {
         return assets_at(book, at, s, bands);
     }
-    if k == 4 {
+    if k == kinds::DERIVATIVE_SET {
         return set_at(book, at, s, bands);
     }
-    if k == 8 {
+    if k == kinds::FINANCING_SET {
         return financing_at(book, at, s, bands);
     }
-    if k == 10 {
+    if k == kinds::OFF_BALANCE {
         return off_balance_at(book, at, s, bands);
     }
-    if k == 15 {
+    if k == kinds::END {
         return end_at(book, at, s, bands);
     }
-    ItemAnswer::Halt(5, at)
+    ItemAnswer::Halt(causes::KIND_NOT_ALLOWED, at)
 }
 
 // Kind 2, which mostly stands in runs.
@@ -58,7 +60,7 @@ fn assets_at(book: &[u32], at: usize, s: Sums, bands: Bands) -> ItemAnswer
     ensures { λ r. ⌜ (fromItem bands (now (book .entry)) s at ≡ answerAhead bands (now (book .entry)) s at r) × SoundAnswer (now (book .entry)) at r ⌝ }
 {
     let cause = asset_cause(&book[at..]);
-    if cause != 0 {
+    if cause != causes::NONE {
         return ItemAnswer::Halt(cause, at);
     }
     let passed = assets(book, at, s, bands);
@@ -72,7 +74,7 @@ fn set_at(book: &[u32], at: usize, s: Sums, bands: Bands) -> ItemAnswer
     ensures { λ r. ⌜ (fromItem bands (now (book .entry)) s at ≡ answerAhead bands (now (book .entry)) s at r) × SoundAnswer (now (book .entry)) at r ⌝ }
 {
     let cause = set_cause(&book[at..]);
-    if cause != 0 {
+    if cause != causes::NONE {
         return ItemAnswer::Halt(cause, at);
     }
     ItemAnswer::Set
@@ -95,7 +97,7 @@ fn off_balance_at(book: &[u32], at: usize, s: Sums, bands: Bands) -> ItemAnswer
     ensures { λ r. ⌜ (fromItem bands (now (book .entry)) s at ≡ answerAhead bands (now (book .entry)) s at r) × SoundAnswer (now (book .entry)) at r ⌝ }
 {
     let cause = off_balance_cause(&book[at..]);
-    if cause != 0 {
+    if cause != causes::NONE {
         return ItemAnswer::Halt(cause, at);
     }
     let passed = off_balance_items(book, at, s, bands);
@@ -109,10 +111,10 @@ fn end_at(book: &[u32], at: usize, s: Sums, bands: Bands) -> ItemAnswer
     ensures { λ r. ⌜ (fromItem bands (now (book .entry)) s at ≡ answerAhead bands (now (book .entry)) s at r) × SoundAnswer (now (book .entry)) at r ⌝ }
 {
     if payload(book[at]) as usize != at {
-        return ItemAnswer::Halt(14, at);
+        return ItemAnswer::Halt(causes::END_FAULTY, at);
     }
     if book.len() != at + 1 {
-        return ItemAnswer::Halt(14, at);
+        return ItemAnswer::Halt(causes::END_FAULTY, at);
     }
     ItemAnswer::End
 }

@@ -1,17 +1,22 @@
 // Kind 3, the bought protections: "exactly b of them after the head".
 use records::presence::lacking;
+use rules::amounts;
+use rules::causes;
+use rules::kinds;
+use rules::lengths;
+use rules::limits;
+use rules::payloads;
 use words::amount::faulty_amount;
 use words::amount::faulty_days;
 use words::amount::size;
 use words::parts::kind;
 use words::parts::payload;
 ghost use mathlib.Core.Path.{_≡_};
-ghost use Prim.Native.Nat.{_^_, _≤_};
-ghost use lib.ListN.{length};
 ghost use denote.Ref.{now};
 ghost use Rattle.rules.specs.Faults.{protectionFault};
 ghost use Rattle.rules.specs.Read.{firstRecord, protectionTurn};
 ghost use Rattle.rules.specs.Run.{runFrom};
+ghost use Rattle.records.specs.Readable.{Readable};
 ghost use Rattle.reading.specs.Steps.{placeOf, protectionStep};
 
 // What stands where a protection is due, and how far the protections reach.
@@ -24,49 +29,49 @@ pub enum Protections {
 fn protection_fault(w: u32, notional: u32, gain: u32, days: u32) -> u32
     ensures { λ r. ⌜ r ≡ protectionFault w notional gain days ⌝ }
 {
-    if payload(w) >= 1048576 {
-        return 7;
+    if payload(w) >= payloads::PROTECTION_END {
+        return causes::PAYLOAD_FAULTY;
     }
     if faulty_amount(notional) {
-        return 8;
+        return causes::AMOUNT_FAULTY;
     }
     if faulty_amount(gain) {
-        return 8;
+        return causes::AMOUNT_FAULTY;
     }
     if faulty_days(days) {
-        return 8;
+        return causes::AMOUNT_FAULTY;
     }
     if size(notional) < size(gain) {
-        return 9;
+        return causes::AMOUNTS_AT_ODDS;
     }
-    0
+    causes::NONE
 }
 
 fn protection(book: &[u32], at: usize) -> Protections
-    requires { ⌜ (at ≤ length (now book)) × (length (now book) ≤ 2 ^ 20) ⌝ }
+    requires { ⌜ Readable at (now book) ⌝ }
     ensures { λ r. ⌜ r ≡ protectionStep (protectionTurn (now (book .entry)) at) ⌝ }
 {
     if book.len() <= at {
-        return Protections::Wrong(14, book.len());
+        return Protections::Wrong(causes::END_FAULTY, book.len());
     }
-    if kind(book[at]) != 3 {
-        return Protections::Wrong(5, at);
+    if kind(book[at]) != kinds::PROTECTION {
+        return Protections::Wrong(causes::KIND_NOT_ALLOWED, at);
     }
-    if lacking(book, at, 3) {
-        return Protections::Wrong(6, at);
+    if lacking(book, at, amounts::PROTECTION) {
+        return Protections::Wrong(causes::WORDS_LACKING, at);
     }
     let fault = protection_fault(book[at], book[at + 1], book[at + 2], book[at + 3]);
-    if fault != 0 {
+    if fault != causes::NONE {
         return Protections::Wrong(fault, at);
     }
-    Protections::Upto(at + 4)
+    Protections::Upto(at + lengths::PROTECTION)
 }
 
 pub fn read_protections(book: &[u32], b: usize) -> Protections
-    requires { ⌜ (2 ≤ length (now book)) × (length (now book) ≤ 2 ^ 20) ⌝ }
+    requires { ⌜ Readable firstRecord (now book) ⌝ }
     ensures { λ r. ⌜ r ≡ placeOf (runFrom (protectionTurn (now (book .entry))) b firstRecord) ⌝ }
 {
-    let mut at = 2;
+    let mut at = limits::FIRST_RECORD;
     let mut left = b;
     while 0 < left {
         match protection(book, at) {

@@ -5,6 +5,7 @@ use records::commitments::off_balance;
 use records::presence::standing;
 use rules::Bands;
 use rules::Sums;
+use rules::kinds;
 ghost use mathlib.Core.Path.{_≡_};
 ghost use mathlib.Core.Bool.{true};
 ghost use lib.ListN.{drop};
@@ -27,7 +28,7 @@ pub fn assets(book: &[u32], from: usize, s: Sums, bands: Bands) -> Passed
 {
     let mut t = s;
     let mut at = from;
-    while standing(book, at, 2) {
+    while standing(book, at, kinds::ASSET) {
         let part = &book[at..];
         match asset(part, t, bands) {
             ItemStep::Next(sums, next) => {
@@ -49,7 +50,7 @@ pub fn off_balance_items(book: &[u32], from: usize, s: Sums, bands: Bands) -> Pa
 {
     let mut t = s;
     let mut place = from;
-    while standing(book, place, 10) {
+    while standing(book, place, kinds::OFF_BALANCE) {
         let part = &book[place..];
         match off_balance(part, t, bands) {
             ItemStep::Next(sums, next) => {

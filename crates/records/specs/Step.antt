@@ -1,8 +1,7 @@
 -- What the reading makes of an item: the sums that it has gathered so far, with the item's part of each row. Assumes nothing.
-use Prim.Native.Nat.{ℕ, zero, suc, _+_, _-_, _*_, _^_, _≤_, _<_}
+use Prim.Native.Nat.{ℕ, zero, suc, _+_, _-_, _*_, _^_, _≤_}
 use mathlib.Core.Bool.{cond}
 use mathlib.Core.List.{List}
-use lib.ListN.{length}
 use Rattle.rules.specs.declared.Bands.{Bands}
 use Rattle.rules.specs.declared.Sums.{Sums}
 use Rattle.rules.specs.Word.{word, fieldOf, bitOf, sizeOf}
@@ -106,8 +105,3 @@ pub record Roomy (s : Sums) : Type 0 where
   pub agent : s .agent ≤ 2 ^ 61
   pub committed : s .committed ≤ 2 ^ 61
   pub unconverted : s .unconverted ≤ 2 ^ 61
-
--- a part of a book that begins at an item's head
-pub record Part (ws : List ℕ) : Type 0 where
-  pub some-word : 0 < length ws
-  pub short : length ws ≤ 2 ^ 20

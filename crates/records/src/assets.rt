@@ -3,6 +3,10 @@ use crate::ItemStep;
 use crate::presence::lacking;
 use rules::Bands;
 use rules::Sums;
+use rules::amounts;
+use rules::causes;
+use rules::lengths;
+use rules::payloads;
 use words::amount::faulty_amount;
 use words::amount::size;
 use words::numbers::chosen;
@@ -15,28 +19,29 @@ ghost use denote.Ref.{now};
 ghost use Rattle.rules.specs.Word.{kindOf, sizeOf, word};
 ghost use Rattle.rules.specs.Faults.{assetFault};
 ghost use Rattle.rules.specs.Read.{assetTurn};
-ghost use Rattle.records.specs.Step.{assetCause, itemStep, Part, Roomy, plusAsset};
+ghost use Rattle.records.specs.Readable.{Readable};
+ghost use Rattle.records.specs.Step.{assetCause, itemStep, Roomy, plusAsset};
 
 // The causes 7 to 9 of an asset with these words.
 fn asset_fault(w: u32, carrying: u32, provision: u32, deducted: u32) -> u32
     ensures { λ r. ⌜ r ≡ assetFault w carrying provision deducted ⌝ }
 {
-    if payload(w) >= 2 {
-        return 7;
+    if payload(w) >= payloads::ASSET_END {
+        return causes::PAYLOAD_FAULTY;
     }
     if faulty_amount(carrying) {
-        return 8;
+        return causes::AMOUNT_FAULTY;
     }
     if faulty_amount(provision) {
-        return 8;
+        return causes::AMOUNT_FAULTY;
     }
     if faulty_amount(deducted) {
-        return 8;
+        return causes::AMOUNT_FAULTY;
     }
     if size(carrying) < size(provision) + size(deducted) {
-        return 9;
+        return causes::AMOUNTS_AT_ODDS;
     }
-    0
+    causes::NONE
 }
 
 // Rows 1 and 2: nothing of a fiduciary asset.
@@ -44,7 +49,7 @@ fn with_asset(mut s: Sums, w: u32, carrying: u32, provision: u32, deducted: u32)
     requires { ⌜ Roomy s × (sizeOf provision + sizeOf deducted ≤ sizeOf carrying) ⌝ }
     ensures { λ r. ⌜ r ≡ plusAsset s w carrying provision deducted ⌝ }
 {
-    let fiduciary = bit(w, 0);
+    let fiduciary = bit(w, payloads::ASSET_FIDUCIARY);
     let carried = 1000 * wide(size(carrying) - size(provision));
     let taken_off = 1000 * wide(size(deducted));
     s.assets = s.assets + chosen(fiduciary, 0, carried);
@@ -54,26 +59,26 @@ fn with_asset(mut s: Sums, w: u32, carrying: u32, provision: u32, deducted: u32)
 
 // The number of the cause for which the record is faulty, or 0.
 pub fn asset_cause(part: &[u32]) -> u32
-    requires { ⌜ Part (now part) ⌝ }
+    requires { ⌜ Readable 1 (now part) ⌝ }
     ensures { λ r. ⌜ r ≡ assetCause (now (part .entry)) ⌝ }
 {
-    if lacking(part, 0, 3) {
-        return 6;
+    if lacking(part, 0, amounts::ASSET) {
+        return causes::WORDS_LACKING;
     }
     asset_fault(part[0], part[1], part[2], part[3])
 }
 
 pub fn asset(part: &[u32], s: Sums, bands: Bands) -> ItemStep
-    requires { ⌜ Part (now part) × ((kindOf (word (now part) 0) ≡ 2) × Roomy s) ⌝ }
+    requires { ⌜ Readable 1 (now part) × ((kindOf (word (now part) 0) ≡ 2) × Roomy s) ⌝ }
     ensures { λ r. ⌜ r ≡ itemStep bands s (assetTurn (now (part .entry))) ⌝ }
 {
-    if lacking(part, 0, 3) {
-        return ItemStep::Stop(6, 0);
+    if lacking(part, 0, amounts::ASSET) {
+        return ItemStep::Stop(causes::WORDS_LACKING, 0);
     }
     let fault = asset_fault(part[0], part[1], part[2], part[3]);
-    if fault != 0 {
+    if fault != causes::NONE {
         return ItemStep::Stop(fault, 0);
     }
     let sums = with_asset(s, part[0], part[1], part[2], part[3]);
-    ItemStep::Next(sums, 4)
+    ItemStep::Next(sums, lengths::ASSET)
 }

@@ -1,15 +1,16 @@
 // Whether the words of a record are there.
+use rules::kinds;
 use words::parts::kind;
 ghost use mathlib.Core.Path.{_≡_};
 ghost use mathlib.Core.Bool.{_||_};
-ghost use Prim.Native.Nat.{_^_, _≤_, _<_};
-ghost use lib.ListN.{length};
+ghost use Prim.Native.Nat.{_≤_, _<_};
 ghost use denote.Ref.{now};
 ghost use Rattle.rules.specs.Read.{lacks, stands};
+ghost use Rattle.records.specs.Readable.{Readable};
 
 // Of the n words after a place one is missing or no amount. The kinds are looked at together, so that one branch serves all.
 pub fn lacking(ws: &[u32], at: usize, n: usize) -> bool
-    requires { ⌜ (at ≤ length (now ws)) × ((length (now ws) ≤ 2 ^ 20) × ((0 < n) × (n ≤ 16))) ⌝ }
+    requires { ⌜ Readable at (now ws) × ((0 < n) × (n ≤ 16)) ⌝ }
     ensures { λ r. ⌜ r ≡ lacks n (now (ws .entry)) at ⌝ }
 {
     if ws.len() <= at + n {
@@ -18,7 +19,7 @@ pub fn lacking(ws: &[u32], at: usize, n: usize) -> bool
     let mut other = false;
     let mut i = n;
     while 0 < i {
-        other = either(other, kind(ws[at + i]) != 0);
+        other = either(other, kind(ws[at + i]) != kinds::AMOUNT);
         i -= 1;
     }
     other

@@ -27,6 +27,8 @@ use denote.Triple.Statement.{Contract}
 use denote.Triple.Clauses.{Lasts}
 use denote.Triple.Walked.{says}
 use Rattle.rules.specs.declared.Entry.{Entry}
+use Rattle.rules.specs.Read.{firstRecord}
+use Rattle.records.specs.Readable.{Readable}
 use Rattle.rules.specs.declared.Draw.{Draw}
 use Rattle.rules.specs.Read.{protectionAt}
 use Rattle.rules.specs.Register.{blank, entryOf, unfitFor}
@@ -173,7 +175,7 @@ module _ {M : Type 1} (𝓤 : URA M) (H : Heap 𝓤) (A : Atoms 𝓤) (mem : Mem
         abbrev pub to-settle : ℕ → GName → Settle .Ghost
         to-settle ν δ = (((κ, (ν ∷ [], tt)), (p, (fullShare, tt)), tt, (slice b₀ o₀ γ₀ ws, (slice b o δ ys, (i, tt))), (sliceVal (b₀, o₀) m ∷ [], (sliceVal (b, o) n ∷ [], (vint w64 i ∷ [], tt)))), tt)
 
-        pub settle-pre : ((2 ≤ length ws) × (length ws ≤ 2 ^ 20)) × ((i ≤ 4096) × (i ≤ length ys)) → (ν : ℕ) (δ : GName) → ent 𝓤 (Given-both ν δ) (Settle .pre (to-settle ν δ))
+        pub settle-pre : Readable firstRecord ws × ((i ≤ 4096) × (i ≤ length ys)) → (ν : ℕ) (δ : GName) → ent 𝓤 (Given-both ν δ) (Settle .pre (to-settle ν δ))
         settle-pre asked ν δ =
             qed W (‵ (flft (ν ∷ []) fullShare) ∷ ‵ (mut-own R (named 1) (ν ∷ []) δ b o n ys) ∷ (‵ (shr-own u32 (named 0) κ γ₀ b₀ o₀ m ws) ⊛ ‵ (flft κ p)) ∷ []) ∵
             says ! asked $ move ! (2 ∷ []) $ split ! $ nothing ! $ move ! (3 ∷ 0 ∷ []) $ join ! $ move ! (2 ∷ 0 ∷ []) $ join ! $ frame ! $
@@ -277,7 +279,7 @@ module _ {M : Type 1} {𝓤 : URA M} {H : Heap 𝓤} {A : Atoms 𝓤} {K : Type 
 
   -- for the crates above
   pub calls-settle : Call K W E xs (Settle 𝓤 H A mem run) G after → (ℓ : Lifetime) {κ : Lft} {p : Share} {γ : GName} {b o n : ℕ} (ys : List Entry) → length ys ≡ n → Room R n
-      → (ℓ₀ : Lifetime) {κ₀ : Lft} {p₀ : Share} {γ₀ : GName} {b₀ o₀ m : ℕ} (ws : List ℕ) (i : ℕ) (i-fits : i < 2 ^ 64) → ((2 ≤ length ws) × (length ws ≤ 2 ^ 20)) × ((i ≤ 4096) × (i ≤ length ys))
+      → (ℓ₀ : Lifetime) {κ₀ : Lft} {p₀ : Share} {γ₀ : GName} {b₀ o₀ m : ℕ} (ws : List ℕ) (i : ℕ) (i-fits : i < 2 ^ 64) → Readable firstRecord ws × ((i ≤ 4096) × (i ≤ length ys))
       → ((ν : ℕ) (δ : GName) → Opds K W (raw (Settle 𝓤 H A mem run .pre (to-settle 𝓤 H A mem run W b o n ys i i-fits κ₀ p₀ b₀ o₀ γ₀ m ws ν δ)) ∷ ‵ (Claim R κ (ν ∷ []) p γ b o δ ys) ∷ ‵ (shr-own u32 ℓ₀ κ₀ γ₀ b₀ o₀ m ws) ∷ Γ) E xs (sliceVal (b₀, o₀) m ∷ sliceVal (b, o) n ∷ vint w64 i ∷ []))
       → ((r : Reading) (zs : List Entry) → IsReading r → length zs ≡ n → r ≡ readingAfter ws i → zs ≡ leftAfter ws i ++ drop i ys
       → Seq K W (‵ (mut-own R ℓ κ γ b o n zs) ∷ ‵ (flft κ p) ∷ ‵ (shr-own u32 ℓ₀ κ₀ γ₀ b₀ o₀ m ws) ∷ ‵ (flft κ₀ p₀) ∷ Γ) (after (mach-reading r)))

@@ -1,5 +1,8 @@
 // The words of the book, and the protections among them.
 use rules::Entry;
+use rules::lengths;
+use rules::limits;
+use rules::payloads;
 use words::amount::size;
 use words::numbers::short_of;
 use words::parts::field;
@@ -32,11 +35,11 @@ pub fn entry_from(book: &[u32], i: usize) -> Entry
     requires { ⌜ i ≤ 4096 ⌝ }
     ensures { λ r. ⌜ r ≡ entryOf (protectionAt (now (book .entry)) (protectionPlace i)) ⌝ }
 {
-    let at = 2 + 4 * i;
+    let at = limits::FIRST_RECORD + lengths::PROTECTION * i;
     let head = word_at(book, at);
     Entry {
-        entity: field(head, 0, 16),
-        rank: field(head, 16, 4),
+        entity: field(head, payloads::ENTITY, payloads::ENTITY_BITS),
+        rank: field(head, payloads::RANK, payloads::RANK_BITS),
         days: size_at(book, at + 3),
         left: short_of(size_at(book, at + 1), size_at(book, at + 2)),
     }

@@ -2,6 +2,7 @@
 use crate::book::entry_from;
 use rules::Draw;
 use rules::Entry;
+use rules::causes;
 use words::numbers::short_of;
 ghost use mathlib.Core.Path.{_≡_};
 ghost use Prim.Native.Nat.{_≤_, _<_};
@@ -22,21 +23,21 @@ pub fn unfit(e: Entry, d: Draw) -> u32
     ensures { λ r. ⌜ r ≡ unfitFor e d ⌝ }
 {
     if e.entity != d.entity {
-        return 12;
+        return causes::PROTECTION_UNFIT;
     }
     if e.rank < d.rank {
-        return 12;
+        return causes::PROTECTION_UNFIT;
     }
     if e.days < d.days {
-        return 12;
+        return causes::PROTECTION_UNFIT;
     }
     if e.left < d.amount {
-        return 13;
+        return causes::COVER_BEYOND;
     }
     if d.room < d.amount {
-        return 13;
+        return causes::COVER_BEYOND;
     }
-    0
+    causes::NONE
 }
 
 // The entry falls by the draw's amount; one that the draw does not fit stays as it is.
@@ -44,7 +45,7 @@ pub fn drawn_down(e: Entry, d: Draw) -> Drawn
     ensures { λ r. ⌜ (r .number ≡ unfitFor e d) × (r .entry ≡ drawnDown e d) ⌝ }
 {
     let number = unfit(e, d);
-    if number != 0 {
+    if number != causes::NONE {
         return Drawn {
             entry: e,
             number: number,
@@ -59,7 +60,7 @@ pub fn drawn_down(e: Entry, d: Draw) -> Drawn
             days: e.days,
             left: after,
         },
-        number: 0,
+        number: causes::NONE,
     }
 }
 
@@ -89,7 +90,7 @@ pub fn draw(register: &mut [Entry], b: usize, d: Draw) -> u32
 {
     let i = d.protection as usize;
     if b <= i {
-        return 11;
+        return causes::NO_SUCH_PROTECTION;
     }
     let after = drawn_down(register[i], d);
     register[i] = after.entry;

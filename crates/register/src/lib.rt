@@ -1,4 +1,6 @@
 // The lent register: the covers of a book are drawn from it one after the other, as the reading comes to them.
+use rules::causes;
+
 mod book;
 mod entries;
 
@@ -11,14 +13,16 @@ use reading::cursor::start;
 use rules::Entry;
 ghost use mathlib.Core.Path.{_≡_};
 ghost use mathlib.Core.List.{_++_};
-ghost use Prim.Native.Nat.{_≤_, _^_};
+ghost use Prim.Native.Nat.{_≤_};
 ghost use lib.ListN.{drop, length};
+ghost use Rattle.rules.specs.Read.{firstRecord};
+ghost use Rattle.records.specs.Readable.{Readable};
 ghost use Rattle.register.specs.Draws.{readingAfter, leftAfter};
 
 // Loads the b protections of the book, reads it, and draws every cover. It ends with the first fault, be it of a record by itself or of
 // a cover that does not fit; the draws before it stand.
 pub fn settle(book: &[u32], register: &mut [Entry], b: usize) -> Reading
-    requires { ⌜ ((2 ≤ length (now book)) × (length (now book) ≤ 2 ^ 20)) × ((b ≤ 4096) × (b ≤ length (now register))) ⌝ }
+    requires { ⌜ Readable firstRecord (now book) × ((b ≤ 4096) × (b ≤ length (now register))) ⌝ }
     ensures { λ r. ⌜ (r ≡ readingAfter (now (book .entry)) b)
         × (now (register .exit) ≡ leftAfter (now (book .entry)) b ++ drop b (now (register .entry))) ⌝ }
 {
@@ -30,7 +34,7 @@ pub fn settle(book: &[u32], register: &mut [Entry], b: usize) -> Reading
             return found.reading;
         }
         let number = draw(register, b, found.draw);
-        if number != 0 {
+        if number != causes::NONE {
             return Reading::Fault(number, found.draw.at);
         }
         cursor = found.cursor;

@@ -1,5 +1,13 @@
 // The rules of document 01 are the definitions in specs/, from Word to Filing and TwoDesks; the laws about them that several crates
-// cite are in proofs/. The structs here are those that both the definitions and the code speak of.
+// cite are in proofs/. The structs here are those that both the definitions and the code speak of; the modules name the numbers of
+// document 01 for the code of all crates.
+pub mod amounts;
+pub mod causes;
+pub mod kinds;
+pub mod lengths;
+pub mod limits;
+pub mod payloads;
+pub mod verdicts;
 
 // An entry of the register: a bought protection, and how much of it no cover has drawn yet.
 #[repr(C)]

@@ -2,6 +2,7 @@
 use crate::signed::below_zero;
 use crate::signed::whole;
 use crate::units::thousandths;
+use rules::verdicts;
 ghost use mathlib.Core.Path.{_≡_};
 ghost use Prim.Native.Nat.{_*_, _^_, _<_};
 ghost use lib.IntN.{pos};
@@ -30,16 +31,16 @@ pub fn verdict(gain: u32, loss: u32, exposure: u64) -> u32
     ensures { λ r. ⌜ r ≡ verdictOf (tier1Of gain loss) (pos exposure) ⌝ }
 {
     if exposure == 0 {
-        return 2;
+        return verdicts::NO_EXPOSURE;
     }
     if gain < loss {
-        return 1;
+        return verdicts::MISSED;
     }
     let tier1 = thousandths(gain - loss);
     if exposure <= 100 * tier1 / 3 {
-        return 0;
+        return verdicts::MET;
     }
-    1
+    verdicts::MISSED
 }
 
 // a / b rounded up

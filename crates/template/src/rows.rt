@@ -5,6 +5,7 @@ use crate::ratio::ratio;
 use crate::signed::signed;
 use crate::units::thousandths;
 use rules::Sums;
+use rules::limits;
 ghost use mathlib.Core.Path.{_≡_};
 ghost use mathlib.Core.List.{_++_};
 ghost use Prim.Native.Nat.{_≤_};
@@ -13,11 +14,11 @@ ghost use lib.ListN.{drop, length};
 ghost use Rattle.rules.specs.Rows.{rowsOf};
 ghost use Rattle.template.specs.Sections.{Small, withDerivatives, withFinancing, withOffBalance, withOnBalance, withRatio};
 
-pub fn rows_of(s: Sums, gain: u32, loss: u32) -> [i64; 22]
+pub fn rows_of(s: Sums, gain: u32, loss: u32) -> [i64; limits::ROWS]
     requires { ⌜ Small s ⌝ }
     ensures { λ r. ⌜ r ≡ rowsOf s gain loss ⌝ }
 {
-    let empty = [0i64; 22];
+    let empty = [0i64; limits::ROWS];
     let first = on_balance_rows(empty, s);
     let second = derivative_rows(first, s);
     let third = financing_rows(second, s);
@@ -26,19 +27,19 @@ pub fn rows_of(s: Sums, gain: u32, loss: u32) -> [i64; 22]
 }
 
 // "in the first 22 places of the lent rows (later places stay)"
-pub fn copy_out(from: [i64; 22], to: &mut [i64])
+pub fn copy_out(from: [i64; limits::ROWS], to: &mut [i64])
     requires { ⌜ 22 ≤ length (now to) ⌝ }
     ensures { λ _. ⌜ now (to .exit) ≡ from ++ drop 22 (now (to .entry)) ⌝ }
 {
     let mut i = 0;
-    while i < 22 {
+    while i < limits::ROWS {
         let row = from[i];
         to[i] = row;
         i += 1;
     }
 }
 
-fn on_balance_rows(mut rows: [i64; 22], s: Sums) -> [i64; 22]
+fn on_balance_rows(mut rows: [i64; limits::ROWS], s: Sums) -> [i64; limits::ROWS]
     requires { ⌜ Small s ⌝ }
     ensures { λ r. ⌜ r ≡ withOnBalance rows s ⌝ }
 {
@@ -48,7 +49,7 @@ fn on_balance_rows(mut rows: [i64; 22], s: Sums) -> [i64; 22]
     rows
 }
 
-fn derivative_rows(mut rows: [i64; 22], s: Sums) -> [i64; 22]
+fn derivative_rows(mut rows: [i64; limits::ROWS], s: Sums) -> [i64; limits::ROWS]
     requires { ⌜ Small s ⌝ }
     ensures { λ r. ⌜ r ≡ withDerivatives rows s ⌝ }
 {
@@ -65,7 +66,7 @@ fn derivative_rows(mut rows: [i64; 22], s: Sums) -> [i64; 22]
     rows
 }
 
-fn financing_rows(mut rows: [i64; 22], s: Sums) -> [i64; 22]
+fn financing_rows(mut rows: [i64; limits::ROWS], s: Sums) -> [i64; limits::ROWS]
     requires { ⌜ Small s ⌝ }
     ensures { λ r. ⌜ r ≡ withFinancing rows s ⌝ }
 {
@@ -78,7 +79,7 @@ fn financing_rows(mut rows: [i64; 22], s: Sums) -> [i64; 22]
     rows
 }
 
-fn off_balance_rows(mut rows: [i64; 22], s: Sums) -> [i64; 22]
+fn off_balance_rows(mut rows: [i64; limits::ROWS], s: Sums) -> [i64; limits::ROWS]
     requires { ⌜ Small s ⌝ }
     ensures { λ r. ⌜ r ≡ withOffBalance rows s ⌝ }
 {
@@ -88,7 +89,7 @@ fn off_balance_rows(mut rows: [i64; 22], s: Sums) -> [i64; 22]
     rows
 }
 
-fn ratio_rows(mut rows: [i64; 22], s: Sums, gain: u32, loss: u32) -> [i64; 22]
+fn ratio_rows(mut rows: [i64; limits::ROWS], s: Sums, gain: u32, loss: u32) -> [i64; limits::ROWS]
     requires { ⌜ Small s ⌝ }
     ensures { λ r. ⌜ r ≡ withRatio rows s gain loss ⌝ }
 {

@@ -1,5 +1,6 @@
 // The add-on factors of trades, per thousand of the notional (document 01, "Factors").
 use rules::Bands;
+use rules::payloads;
 use words::numbers::from_byte;
 ghost use mathlib.Core.Bool.{cond, _&&_};
 ghost use mathlib.Core.Path.{_≡_};
@@ -96,7 +97,7 @@ pub fn trade_factor(
 ) -> u32
     ensures { λ r. ⌜ r ≡ tradeFactor bands class resets qualifying days «reset_days» ⌝ }
 {
-    if class == 5 {
+    if class == payloads::CLASS_BOUGHT_CREDIT {
         return credit_factor(qualifying);
     }
     market_factor(bands, class, resets, days, reset_days)

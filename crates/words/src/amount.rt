@@ -1,6 +1,7 @@
 // An amount: "bit 27 the sign, bits 26 to 0 the size".
 use crate::parts::bit;
 use crate::parts::payload;
+use rules::limits;
 ghost use mathlib.Core.Path.{_≡_};
 ghost use Rattle.rules.specs.Word.{bitOf, faultyAmount, faultyDays, gainOf, lossOf, minusZero, sizeOf};
 
@@ -55,5 +56,5 @@ pub fn faulty_amount(w: u32) -> bool
 pub fn faulty_days(w: u32) -> bool
     ensures { λ r. ⌜ r ≡ faultyDays w ⌝ }
 {
-    payload(w) > 65535
+    payload(w) > limits::DAYS
 }

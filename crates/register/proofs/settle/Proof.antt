@@ -42,6 +42,8 @@ use denote.Triple.Walked.{says, needs, Stays, stay-slice, stay-none-slice, stay-
 use denote.Exit.{yes}
 use denote.Signature.{plain}
 use Rattle.rules.specs.declared.Entry.{Entry}
+use Rattle.rules.specs.Read.{firstRecord}
+use Rattle.records.specs.Readable.{Readable}
 use Rattle.rules.specs.Register.{drawFault, drawn}
 use Rattle.rules.proofs.Draw.Laws as TD′
 use Rattle.reading.specs.declared.Reading.{Reading}
@@ -122,7 +124,7 @@ record Callees {M : Type 1} (𝓤 : URA M) (H : Heap 𝓤) (A : Atoms 𝓤) (mem
 module _ {M : Type 1} (𝓤 : URA M) (H : Heap 𝓤) (A : Atoms 𝓤) (W : Given 𝓤 H A) (mem : Memory → SProp 𝓤) (run : Routine → Fun 𝓤)
     (κ₀ κ₁ : Lft) (bounds : AllOutlive 2 (settle′.signature .outlives) (κ₀, (κ₁, tt))) (q₀ q₁ : Share)
     (b₀ o₀ : ℕ) (γ₀ : GName) (ws : List ℕ) (b o : ℕ) (γ : GName) (ys : List Entry) (k : ℕ)
-    (book-room : Room u32 (length ws)) (room : Room R (length ys)) (k-fits : k < 2 ^ 64) (asked : ((2 ≤ length ws) × (length ws ≤ 2 ^ 20)) × ((k ≤ 4096) × (k ≤ length ys))) where
+    (book-room : Room u32 (length ws)) (room : Room R (length ys)) (k-fits : k < 2 ^ 64) (asked : Readable firstRecord ws × ((k ≤ 4096) × (k ≤ length ys))) where
   abbrev n : ℕ
   n = length ys
 
@@ -308,7 +310,7 @@ module _ {M : Type 1} (𝓤 : URA M) (H : Heap 𝓤) (A : Atoms 𝓤) (W : Given
           cursor = startCursor;
           es = loadedFrom ws k 0;
           cursor-is = is;
-          sound = start-sound ws (asked .0 .0) (asked .0 .1);
+          sound = start-sound ws (asked .0);
           len = loaded-length ws k 0;
           same = ap (comesTo (loadedFrom ws k 0)) (start-ahead ws);
         }
@@ -329,7 +331,7 @@ module _ {M : Type 1} (𝓤 : URA M) (H : Heap 𝓤) (A : Atoms 𝓤) (W : Given
   walks =
       walked 𝓤 H A settle′.ended stayed (settle′.clauses 𝓤 H A mem run) (WpFn 𝓤 H (𝓣 .C) (𝓣 .Λ) code.function)
       (λ κs. (slice-vals, (slice-vals, (uint-vals w64, tt)))) (λ κs. (shr-slice-tells (named 0) (κs .0) u32, (mut-slice-tells (named 1) (κs .1 .0) R, (uint-tells w64, tt))))
-      (λ κs qs bounds a g are. needs 𝓤 (((2 ≤ length (a .0 .now)) × (length (a .0 .now) ≤ 2 ^ 20)) × ((a .1 .1 .0 ≤ 4096) × (a .1 .1 .0 ≤ length (a .1 .0 .now)))) _
+      (λ κs qs bounds a g are. needs 𝓤 (Readable firstRecord (a .0 .now) × ((a .1 .1 .0 ≤ 4096) × (a .1 .1 .0 ≤ length (a .1 .0 .now)))) _
       (λ asked. walk 𝓤 H A W mem run (κs .0) (κs .1 .0) bounds (qs .0) (qs .1 .0) (a .0 .ptr .0) (a .0 .ptr .1) (a .0 .name) (a .0 .now) (a .1 .0 .ptr .0) (a .1 .0 .ptr .1) (a .1 .0 .name) (a .1 .0 .now) (a .1 .1 .0)
       (are .0 .0 .1) (are .1 .0 .0 .1) (are .1 .1 .0 .1) asked 𝓣 callees))
 

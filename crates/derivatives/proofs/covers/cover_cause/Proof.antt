@@ -33,7 +33,7 @@ shared-slice-read-cover-fault-2 c =
     let e = c .before .before .before .before .before in
     let if1 = c .before .before .if1 in
     let lacking = c .before .before .before .lacking in
-    room 1 1 (e .args .part .now) (e .args .at) (lacking .result) (lacking .ensures) (if1 .left) (e .pre .0) (omega arith)
+    room 1 1 (e .args .part .now) (e .args .at) (lacking .result) (lacking .ensures) (if1 .left) (e .pre .within) (omega arith)
 
 cover-fault-requires : tie.Need-cover-fault-requires
 cover-fault-requires c κs = search needs

@@ -7,7 +7,7 @@ use Rattle.derivatives.proofs.members.cover.Tie as tie
 cover-cause-requires : tie.Need-cover-cause-requires
 cover-cause-requires c κs =
     let e = c .before .before .before in
-    (cover-there (e .pre .0) (e .pre .1 .1), omega (arith, e .pre .0 .short))
+    record { within = cover-there (e .pre .0) (e .pre .1 .1); short = omega (arith, e .pre .0 .short) }
 
 returns : tie.Need-returns
 returns c =

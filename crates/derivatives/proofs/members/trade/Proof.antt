@@ -7,7 +7,7 @@ use Rattle.derivatives.proofs.members.trade.Tie as tie
 lacking-requires : tie.Need-lacking-requires
 lacking-requires c κs =
     let e = c .before in
-    (e .pre .0 .within, (omega (arith, e .pre .0 .short), omega arith))
+    (record { within = e .pre .0 .within; short = omega (arith, e .pre .0 .short) }, omega arith)
 
 returns : tie.Need-returns
 returns c =

@@ -31,7 +31,7 @@ shared-slice-read-financing-trade-fault-2 c =
     let p = c .before .before .before .before .before .pre in
     let lacking = c .before .before .before .lacking in
     let if1 = c .before .before .if1 in
-    room 7 1 _ _ _ (lacking .ensures) (if1 .left) (p .0) (omega arith)
+    room 7 1 _ _ _ (lacking .ensures) (if1 .left) (p .within) (omega arith)
 
 add-financing-trade-fault-2 : tie.Need-add-financing-trade-fault-2
 add-financing-trade-fault-2 c = search needs
@@ -44,7 +44,7 @@ shared-slice-read-financing-trade-fault-3 c =
     let p = c .before .before .before .before .before .before .pre in
     let lacking = c .before .before .before .before .lacking in
     let if1 = c .before .before .before .if1 in
-    room 7 2 _ _ _ (lacking .ensures) (if1 .left) (p .0) (omega arith)
+    room 7 2 _ _ _ (lacking .ensures) (if1 .left) (p .within) (omega arith)
 
 add-financing-trade-fault-3 : tie.Need-add-financing-trade-fault-3
 add-financing-trade-fault-3 c = search needs
@@ -57,7 +57,7 @@ shared-slice-read-financing-trade-fault-4 c =
     let p = c .before .before .before .before .before .before .before .pre in
     let lacking = c .before .before .before .before .before .lacking in
     let if1 = c .before .before .before .before .if1 in
-    room 7 3 _ _ _ (lacking .ensures) (if1 .left) (p .0) (omega arith)
+    room 7 3 _ _ _ (lacking .ensures) (if1 .left) (p .within) (omega arith)
 
 add-financing-trade-fault-4 : tie.Need-add-financing-trade-fault-4
 add-financing-trade-fault-4 c = search needs
@@ -70,7 +70,7 @@ shared-slice-read-financing-trade-fault-5 c =
     let p = c .before .before .before .before .before .before .before .before .pre in
     let lacking = c .before .before .before .before .before .before .lacking in
     let if1 = c .before .before .before .before .before .if1 in
-    room 7 4 _ _ _ (lacking .ensures) (if1 .left) (p .0) (omega arith)
+    room 7 4 _ _ _ (lacking .ensures) (if1 .left) (p .within) (omega arith)
 
 add-financing-trade-fault-5 : tie.Need-add-financing-trade-fault-5
 add-financing-trade-fault-5 c = search needs
@@ -83,7 +83,7 @@ shared-slice-read-financing-trade-fault-6 c =
     let p = c .before .before .before .before .before .before .before .before .before .pre in
     let lacking = c .before .before .before .before .before .before .before .lacking in
     let if1 = c .before .before .before .before .before .before .if1 in
-    room 7 5 _ _ _ (lacking .ensures) (if1 .left) (p .0) (omega arith)
+    room 7 5 _ _ _ (lacking .ensures) (if1 .left) (p .within) (omega arith)
 
 add-financing-trade-fault-6 : tie.Need-add-financing-trade-fault-6
 add-financing-trade-fault-6 c = search needs
@@ -96,7 +96,7 @@ shared-slice-read-financing-trade-fault-7 c =
     let p = c .before .before .before .before .before .before .before .before .before .before .pre in
     let lacking = c .before .before .before .before .before .before .before .before .lacking in
     let if1 = c .before .before .before .before .before .before .before .if1 in
-    room 7 6 _ _ _ (lacking .ensures) (if1 .left) (p .0) (omega arith)
+    room 7 6 _ _ _ (lacking .ensures) (if1 .left) (p .within) (omega arith)
 
 add-financing-trade-fault-7 : tie.Need-add-financing-trade-fault-7
 add-financing-trade-fault-7 c = search needs
@@ -109,7 +109,7 @@ shared-slice-read-financing-trade-fault-8 c =
     let p = c .before .before .before .before .before .before .before .before .before .before .before .pre in
     let lacking = c .before .before .before .before .before .before .before .before .before .lacking in
     let if1 = c .before .before .before .before .before .before .before .before .if1 in
-    room 7 7 _ _ _ (lacking .ensures) (if1 .left) (p .0) (omega arith)
+    room 7 7 _ _ _ (lacking .ensures) (if1 .left) (p .within) (omega arith)
 
 financing-trade-fault-requires : tie.Need-financing-trade-fault-requires
 financing-trade-fault-requires c κs = search needs

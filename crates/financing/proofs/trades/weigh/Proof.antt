@@ -16,7 +16,7 @@ abbrev μ-loop : tie.MeasureT-loop
 μ-loop part agent t₀ at₀ t at = length part - at
 
 shared-slice-read-bit : tie.Need-shared-slice-read-bit Inv-loop μ-loop
-shared-slice-read-bit c = (c .before .before .pre .0 .some-word)
+shared-slice-read-bit c = (c .before .before .pre .0 .within)
 
 bit-requires : tie.Need-bit-requires Inv-loop μ-loop
 bit-requires c κs = search needs
@@ -29,7 +29,7 @@ loop-holds c =
     let p = c .before .before .before .before .pre in
     let bit = c .before .bit in
     let none = c .none in
-    ((bit .ensures), at-first _ _ (p .0 .some-word) (p .1) (none .ensures))
+    ((bit .ensures), at-first _ _ (p .0 .within) (p .1) (none .ensures))
 
 standing-requires : tie.Need-standing-requires Inv-loop μ-loop
 standing-requires c κs = search needs
@@ -40,7 +40,7 @@ trade-fault-requires c κs =
     let loop = c .before .before .loop in
     let standing = c .before .standing in
     let if1 = c .if1 in
-    (trade-there _ _ _ (loop .inv .1) _ (standing .ensures) (if1 .taken), (p .0 .short))
+    record { within = trade-there _ _ _ (loop .inv .1) _ (standing .ensures) (if1 .taken); short = p .0 .short }
 
 returns : tie.Need-returns Inv-loop μ-loop
 returns c =
@@ -59,8 +59,11 @@ with-trade-requires c κs =
     let if1 = c .before .before .if1 in
     let trade-fault = c .before .trade-fault in
     let if2 = c .if2 in (
-      trade-room _ _ _ (loop .inv .1) _ (standing .ensures) (if1 .taken) _ (loop .inv .0) _ (trade-fault .ensures) (if2 .left),
-      ((p .0 .short), tally-room _ _ _ (loop .inv .1) (p .0 .short)),
+      record {
+        within = omega (arith, trade-room _ _ _ (loop .inv .1) _ (standing .ensures) (if1 .taken) _ (loop .inv .0) _ (trade-fault .ensures) (if2 .left));
+        short = p .0 .short;
+      },
+      tally-room _ _ _ (loop .inv .1) (p .0 .short),
     )
 
 add-at : tie.Need-add-at Inv-loop μ-loop

@@ -183,7 +183,7 @@ module _ {M : Type 1} (𝓤 : URA M) (H : Heap 𝓤) (A : Atoms 𝓤) (W : Given
         land ! (from ! (stop !)) (init ! 22 refl (tt, record { fits = p-fits })) $
         assigns ! (addr ! (from ! (fld ! refl (hop ! (look-in ! 26 (sub ! 0 refl (whole !))) (stop !))))) (from ! (stop !)) (init ! 14 refl (tt, tt)) $ assigns ! (agg ! (and-then ! (load ! (from ! (stop !)) (look ! 14 refl)) (and-then ! (load ! (from ! (fld ! refl (stop !))) (look-in ! 26 (sub ! 1 refl (whole !)))) (no-more !)))) (from ! (stop !)) (init ! 12 refl (tt, (tt, (record { fits = room .0 }, tt)))) $
         let k : ℕ = headOf ws .protections in
-        calls-settle ! mem run (mid ! fm (callees .settle)) (named 1) ys refl room (named 0) ws k p-fits ((looked .words, looked .short), (looked .count, looked .room)) (λ ν δ. and-then ! (load ! (from ! (stop !)) (look ! 27 refl)) (and-then ! (load ! (from ! (stop !)) (look ! 11 refl)) (and-then ! (load ! (from ! (stop !)) (look ! 21 refl)) (no-more !)))) (λ d zs d-is z-len d-eq z-eq.
+        calls-settle ! mem run (mid ! fm (callees .settle)) (named 1) ys refl room (named 0) ws k p-fits (looked .readable, (looked .count, looked .room)) (λ ν δ. and-then ! (load ! (from ! (stop !)) (look ! 27 refl)) (and-then ! (load ! (from ! (stop !)) (look ! 11 refl)) (and-then ! (load ! (from ! (stop !)) (look ! 21 refl)) (no-more !)))) (λ d zs d-is z-len d-eq z-eq.
         land ! (from ! (stop !)) (init ! 20 refl (typed-reading 𝓤 H A W d d-is)) $
         calls-is-fault ! mem run (mid ! fm (callees .is-fault)) d d-is (and-then ! (load ! (from ! (stop !)) (look ! 21 refl)) (no-more !)) (λ y y-eq.
         land ! (from ! (stop !)) (init ! 10 refl (tt, tt)) $

@@ -33,7 +33,7 @@ add-t16 c =
     let r = c .before .before .before .financing-set in
     let g = c .before .sums .given in
     let o = item-next (e .args .bands) m (λ z. omega arith) financingSetTurn (plain-financing _) (of-kind-8 _ (kind-here m)) (r .result) (r .ensures) (g .0 .0) (g .0 .1 .0) (g .1) in
-    omega (arith, o .fair .within, o .fair .short)
+    omega (arith, o .fair .readable .within, o .fair .readable .short)
 
 enum-known-number : tie.Need-enum-known-number
 enum-known-number c = search needs
@@ -45,7 +45,7 @@ add-t17 c =
     let r = c .before .before .before .financing-set in
     let g = c .before .number .given in
     let o = item-stop (e .args .bands) m (λ z. omega arith) financingSetTurn (plain-financing _) (of-kind-8 _ (kind-here m)) (r .result) (r .ensures) (g .0 .0) (g .0 .1 .0) (g .1) in
-    omega (arith, o .0, e .pre .0 .short)
+    omega (arith, o .0, e .pre .0 .readable .short)
 
 returns : tie.Need-returns
 returns c =

@@ -29,7 +29,7 @@ standing-requires : tie.Need-standing-requires Inv-loop μ-loop
 standing-requires c κs = search needs
 
 mul-part : tie.Need-mul-part Inv-loop μ-loop
-mul-part c = omega (arith, here c .here, here c .fair .short)
+mul-part c = omega (arith, here c .here, here c .fair .readable .short)
 
 sub-part : tie.Need-sub-part Inv-loop μ-loop
 sub-part c = omega (arith, here c .here)
@@ -57,10 +57,10 @@ next c =
     item-next _ m (λ z. omega arith) assetTurn (plain-asset _) (of-kind-2 _ (kind-here m)) (r .result) (r .ensures) (g .0 .0) (g .0 .1 .0) (g .1)
 
 add-at : tie.Need-add-at Inv-loop μ-loop
-add-at c = omega (arith, next c .fair .within, next c .fair .short)
+add-at c = omega (arith, next c .fair .readable .within, next c .fair .readable .short)
 
 loop-less : tie.Need-loop-less Inv-loop μ-loop
-loop-less c = omega (arith, next c .fair .within, next c .further)
+loop-less c = omega (arith, next c .fair .readable .within, next c .further)
 
 loop-again : tie.Need-loop-again Inv-loop μ-loop
 loop-again c = passing-more (c .before .before .before .before .before .before .before .loop .inv) (next c)

@@ -7,15 +7,15 @@ use Rattle.reading.proofs.steps.set_step.Tie as tie
 mul-part : tie.Need-mul-part
 mul-part c =
     let f = c .before .before .before .pre .0 .fair (c .before .before .before .pre .1 .0) in
-    omega (arith, f .within, f .short)
+    omega (arith, f .readable .within, f .readable .short)
 
 sub-part : tie.Need-sub-part
-sub-part c = c .before .before .before .pre .0 .fair (c .before .before .before .pre .1 .0) .within
+sub-part c = c .before .before .before .pre .0 .fair (c .before .before .before .pre .1 .0) .readable .within
 
 part-part-start : tie.Need-part-part-start
 part-part-start c =
     let f = c .before .before .before .pre .0 .fair (c .before .before .before .pre .1 .0) in
-    omega (arith, f .within, f .short)
+    omega (arith, f .readable .within, f .readable .short)
 
 part-part-end : tie.Need-part-part-end
 part-part-end c = search needs
@@ -35,7 +35,7 @@ add-t21 c =
     let r = c .before .before .before .weigh in
     let g = c .before .t .given in
     let l = set-there (e .pre .0) (e .pre .1 .0) (e .pre .1 .1 .0) (e .pre .1 .1 .1) (r .result) (r .ensures) (g .0 .0) (g .0 .1 .0) (g .1) in
-    omega (arith, l .2, e .pre .0 .short)
+    omega (arith, l .2, e .pre .0 .readable .short)
 
 shared-slice-read-with-set : tie.Need-shared-slice-read-with-set
 shared-slice-read-with-set c =
@@ -87,7 +87,7 @@ add-t33 c =
     let e = c .before .before .before .before .before .before .before .before in
     let r = c .before .before .before .weigh in
     let g = c .before .number .given in
-    omega (arith, fault-there (e .pre .0) (e .pre .1 .0) (e .pre .1 .1 .0) (e .pre .1 .1 .1) (r .result) (r .ensures) (g .0 .0) (g .0 .1 .0) (g .1), e .pre .0 .short)
+    omega (arith, fault-there (e .pre .0) (e .pre .1 .0) (e .pre .1 .1 .0) (e .pre .1 .1 .1) (r .result) (r .ensures) (g .0 .0) (g .0 .1 .0) (g .1), e .pre .0 .readable .short)
 
 returns : tie.Need-returns
 returns c =

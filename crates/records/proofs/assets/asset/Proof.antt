@@ -21,21 +21,21 @@ shared-slice-read-asset-fault-2 : tie.Need-shared-slice-read-asset-fault-2
 shared-slice-read-asset-fault-2 c =
     let e = c .before .before .before .before .before in
     let lacking = c .before .before .before .lacking in
-    room 3 1 (e .args .part .now) 0 (lacking .result) (lacking .ensures) (c .before .before .if1 .left) (e .pre .0 .some-word) (lit≤ tt)
+    room 3 1 (e .args .part .now) 0 (lacking .result) (lacking .ensures) (c .before .before .if1 .left) (e .pre .0 .within) (lit≤ tt)
 
 shared-slice-read-asset-fault-3 : tie.Need-shared-slice-read-asset-fault-3
 shared-slice-read-asset-fault-3 c =
     let e = c .before .before .before .before .before .before in
     let if1 = c .before .before .before .if1 in
     let lacking = c .before .before .before .before .lacking in
-    room 3 2 (e .args .part .now) 0 (lacking .result) (lacking .ensures) (if1 .left) (e .pre .0 .some-word) (lit≤ tt)
+    room 3 2 (e .args .part .now) 0 (lacking .result) (lacking .ensures) (if1 .left) (e .pre .0 .within) (lit≤ tt)
 
 shared-slice-read-asset-fault-4 : tie.Need-shared-slice-read-asset-fault-4
 shared-slice-read-asset-fault-4 c =
     let e = c .before .before .before .before .before .before .before in
     let if1 = c .before .before .before .before .if1 in
     let lacking = c .before .before .before .before .before .lacking in
-    room 3 3 (e .args .part .now) 0 (lacking .result) (lacking .ensures) (if1 .left) (e .pre .0 .some-word) (lit≤ tt)
+    room 3 3 (e .args .part .now) 0 (lacking .result) (lacking .ensures) (if1 .left) (e .pre .0 .within) (lit≤ tt)
 
 asset-fault-requires : tie.Need-asset-fault-requires
 asset-fault-requires c κs = search needs
@@ -56,21 +56,21 @@ shared-slice-read-with-asset-2 c =
     let e = c .before .before .before .before .before .before .before .before .before .before .before in
     let if1 = c .before .before .before .before .before .before .before .before .if1 in
     let lacking = c .before .before .before .before .before .before .before .before .before .lacking in
-    room 3 1 (e .args .part .now) 0 (lacking .result) (lacking .ensures) (if1 .left) (e .pre .0 .some-word) (lit≤ tt)
+    room 3 1 (e .args .part .now) 0 (lacking .result) (lacking .ensures) (if1 .left) (e .pre .0 .within) (lit≤ tt)
 
 shared-slice-read-with-asset-3 : tie.Need-shared-slice-read-with-asset-3
 shared-slice-read-with-asset-3 c =
     let e = c .before .before .before .before .before .before .before .before .before .before .before .before in
     let if1 = c .before .before .before .before .before .before .before .before .before .if1 in
     let lacking = c .before .before .before .before .before .before .before .before .before .before .lacking in
-    room 3 2 (e .args .part .now) 0 (lacking .result) (lacking .ensures) (if1 .left) (e .pre .0 .some-word) (lit≤ tt)
+    room 3 2 (e .args .part .now) 0 (lacking .result) (lacking .ensures) (if1 .left) (e .pre .0 .within) (lit≤ tt)
 
 shared-slice-read-with-asset-4 : tie.Need-shared-slice-read-with-asset-4
 shared-slice-read-with-asset-4 c =
     let e = c .before .before .before .before .before .before .before .before .before .before .before .before .before in
     let if1 = c .before .before .before .before .before .before .before .before .before .before .if1 in
     let lacking = c .before .before .before .before .before .before .before .before .before .before .before .lacking in
-    room 3 3 (e .args .part .now) 0 (lacking .result) (lacking .ensures) (if1 .left) (e .pre .0 .some-word) (lit≤ tt)
+    room 3 3 (e .args .part .now) 0 (lacking .result) (lacking .ensures) (if1 .left) (e .pre .0 .within) (lit≤ tt)
 
 with-asset-requires : tie.Need-with-asset-requires
 with-asset-requires c κs =

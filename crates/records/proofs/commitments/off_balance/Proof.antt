@@ -21,7 +21,7 @@ shared-slice-read-off-balance-fault-2 : tie.Need-shared-slice-read-off-balance-f
 shared-slice-read-off-balance-fault-2 c =
     let e = c .before .before .before .before .before in
     let lacking = c .before .before .before .lacking in
-    room 1 1 (e .args .part .now) 0 (lacking .result) (lacking .ensures) (c .before .before .if1 .left) (e .pre .0 .some-word) (lit≤ tt)
+    room 1 1 (e .args .part .now) 0 (lacking .result) (lacking .ensures) (c .before .before .if1 .left) (e .pre .0 .within) (lit≤ tt)
 
 off-balance-fault-requires : tie.Need-off-balance-fault-requires
 off-balance-fault-requires c κs = search needs
@@ -42,7 +42,7 @@ shared-slice-read-with-off-balance-2 c =
     let e = c .before .before .before .before .before .before .before .before .before in
     let if1 = c .before .before .before .before .before .before .if1 in
     let lacking = c .before .before .before .before .before .before .before .lacking in
-    room 1 1 (e .args .part .now) 0 (lacking .result) (lacking .ensures) (if1 .left) (e .pre .0 .some-word) (lit≤ tt)
+    room 1 1 (e .args .part .now) 0 (lacking .result) (lacking .ensures) (if1 .left) (e .pre .0 .within) (lit≤ tt)
 
 with-off-balance-requires : tie.Need-with-off-balance-requires
 with-off-balance-requires c κs = search needs

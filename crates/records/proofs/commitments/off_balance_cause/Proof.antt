@@ -19,7 +19,7 @@ shared-slice-read-off-balance-fault-2 : tie.Need-shared-slice-read-off-balance-f
 shared-slice-read-off-balance-fault-2 c =
     let e = c .before .before .before .before .before in
     let lacking = c .before .before .before .lacking in
-    room 1 1 (e .args .part .now) 0 (lacking .result) (lacking .ensures) (c .before .before .if1 .left) (e .pre .some-word) (lit≤ tt)
+    room 1 1 (e .args .part .now) 0 (lacking .result) (lacking .ensures) (c .before .before .if1 .left) (e .pre .within) (lit≤ tt)
 
 off-balance-fault-requires : tie.Need-off-balance-fault-requires
 off-balance-fault-requires c κs = search needs

@@ -1,0 +1,14 @@
+// The limits that document 01 sets.
+use crate::lengths;
+
+pub const BOOK_WORDS: usize = 1 << 20;
+
+pub const ROWS: usize = 22;
+// b is 0 to 4,096.
+pub const PROTECTIONS: u32 = 4096;
+// "Amounts called days run from 0 to 65,535."
+pub const DAYS: u32 = 65535;
+// Where the records behind the head begin.
+pub const FIRST_RECORD: usize = lengths::HEAD;
+// The entries of the register of those who lend none.
+pub const OWN_ENTRIES: usize = 1024;
