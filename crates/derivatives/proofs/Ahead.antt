@@ -17,7 +17,7 @@ use Rattle.theorems.proofs.MemberBounds.{perWord, coverWeight, fine-cover, memb
 use Rattle.derivatives.specs.declared.tally.Tally.{Tally}
 use Rattle.derivatives.specs.declared.covers.OpenCredit.{OpenCredit}
 use Rattle.derivatives.specs.Gathered.{plusMember}
-use Rattle.derivatives.specs.Ahead.{gathered, broken, endsWith, after, membersAhead, fromMember, tallyWith, coversBy, coversAhead, fromCover, drawHere, plusCover}
+use Rattle.derivatives.specs.Ahead.{gathered, refused, endsWith, after, membersAhead, fromMember, tallyWith, coversBy, coversAhead, fromCover, drawHere, plusCover}
 
 module _ (bands : Bands) (ws : List ℕ) (begin : ℕ) where
   abbrev memberRun : ℕ → Run Member
@@ -39,7 +39,7 @@ module _ (bands : Bands) (ws : List ℕ) (begin : ℕ) where
     unfolding drawsOf
     member-over e = by-member over e ∙ simp add-zero
 
-    pub member-bad : (number place : ℕ) → memberTurn ws at ≡ bad number place → (number ≡ 0 → ⊥) → fromMember bands ws begin t at ≡ endsWith (broken number place)
+    pub member-bad : (number place : ℕ) → memberTurn ws at ≡ bad number place → (number ≡ 0 → ⊥) → fromMember bands ws begin t at ≡ endsWith (refused number place)
     unfolding drawsOf
     member-bad zero place e n = absurd (n refl)
     member-bad (suc number) place e n = by-member (bad (suc number) place) e
@@ -80,7 +80,7 @@ module _ (bands : Bands) (ws : List ℕ) (begin : ℕ) where
     unfolding drawsFrom
     cover-over e = by-cover over e
 
-    pub cover-bad : (number place : ℕ) → coverTurn ws at ≡ bad number place → (number ≡ 0 → ⊥) → fromCover bands ws begin t c at ≡ endsWith (broken number place)
+    pub cover-bad : (number place : ℕ) → coverTurn ws at ≡ bad number place → (number ≡ 0 → ⊥) → fromCover bands ws begin t c at ≡ endsWith (refused number place)
     unfolding drawsFrom
     cover-bad zero place e n = absurd (n refl)
     cover-bad (suc number) place e n = by-cover (bad (suc number) place) e

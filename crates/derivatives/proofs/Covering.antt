@@ -20,7 +20,7 @@ use Rattle.derivatives.specs.declared.tally.Tally.{Tally}
 use Rattle.derivatives.specs.declared.covers.OpenCredit.{OpenCredit}
 use Rattle.derivatives.specs.declared.set.OpenSet.{OpenSet}
 use Rattle.derivatives.specs.Gathered.{plusWritten, writtenOf}
-use Rattle.derivatives.specs.Ahead.{broken, endsWith, after, fromMember, fromCover, setAhead, tallyWith, coverCause, drawHere, plusCover, SmallTally, OpenIn, SoundSet}
+use Rattle.derivatives.specs.Ahead.{refused, endsWith, after, fromMember, fromCover, setAhead, tallyWith, coverCause, drawHere, plusCover, TallyUpTo, OpenIn, SoundSet}
 use Rattle.derivatives.proofs.Ahead.{cover-over, cover-bad, cover-more}
 
 -- whether a cover is due: a credit is open, and a cover stands there
@@ -38,7 +38,7 @@ module _ {a b r : Bool} (q : r ≡ (a && b)) where
 -- ---- how large it is, and that its words are there
 
 module _ {ws : List ℕ} {begin : ℕ} {o : OpenSet} (s : SoundSet ws begin o) where
-  pub none-small : o .credit .allowed ≡ false → SmallTally (o .tally) (o .at)
+  pub none-small : o .credit .allowed ≡ false → TallyUpTo (o .tally) (o .at)
   none-small a = simp a at (s .small)
 
   module _ (a : o .credit .allowed ≡ true) where
@@ -51,11 +51,11 @@ module _ {ws : List ℕ} {begin : ℕ} {o : OpenSet} (s : SoundSet ws begin o) w
     pub open-covered : o .credit .covered ≤ 2 ^ 62
     open-covered = omega (arith, open-here .covered, s .within, s .short)
 
-    pub open-small : SmallTally (o .tally) (o .credit .place)
+    pub open-small : TallyUpTo (o .tally) (o .credit .place)
     open-small = simp a at (s .small)
 
     -- with the open credit in it
-    closed-small : SmallTally (tallyWith ws (o .tally) (o .credit) 0) (o .at)
+    closed-small : TallyUpTo (tallyWith ws (o .tally) (o .credit) 0) (o .at)
     unfolding writtenAt
     closed-small =
         let gain = gain-small (word ws (o .credit .place + 1)) in
@@ -99,7 +99,7 @@ module _ (bands : Bands) {ws : List ℕ} {begin : ℕ} {o : OpenSet} (s : SoundS
     unfolding coverTurn
     cover-turn = simp k
 
-    pub cover-wrong : (f ≡ 0 → ⊥) → fromCover bands ws begin (o .tally) (o .credit) (o .at) ≡ endsWith (broken f (o .at))
+    pub cover-wrong : (f ≡ 0 → ⊥) → fromCover bands ws begin (o .tally) (o .credit) (o .at) ≡ endsWith (refused f (o .at))
     unfolding coverCause
     cover-wrong n =
         cover-bad bands ws begin (o .tally) (o .credit) (o .at) (s .within) f (o .at)
@@ -140,5 +140,5 @@ module _ (bands : Bands) {ws : List ℕ} {begin : ℕ} {o : OpenSet} (s : SoundS
     unfolding coverTurn
     closes = some-open a ∙ rw tally-is (cover-over bands ws begin (o .tally) (o .credit) (o .at) (s .within) (simp k))
 
-    pub closed-sound : SmallTally t (o .at)
+    pub closed-sound : TallyUpTo t (o .at)
     closed-sound = rw tally-is (closed-small s a)

@@ -21,14 +21,14 @@ use Rattle.theorems.proofs.MemberBounds.{perWord, memberWeight, fine-member}
 use Rattle.derivatives.specs.declared.tally.Tally.{Tally}
 use Rattle.derivatives.specs.declared.covers.OpenCredit.{OpenCredit}
 use Rattle.derivatives.specs.declared.set.OpenSet.{OpenSet}
-use Rattle.derivatives.specs.Gathered.{plusMember, tradeOf, RoomyTally}
-use Rattle.derivatives.specs.Ahead.{gathered, broken, endsWith, fromMember, setAhead, noCredit, SmallTally, SoundSet, Standing}
+use Rattle.derivatives.specs.Gathered.{plusMember, tradeOf, TallyRoomy}
+use Rattle.derivatives.specs.Ahead.{gathered, refused, endsWith, fromMember, setAhead, noCredit, TallyUpTo, SoundSet, Standing}
 use Rattle.derivatives.proofs.Ahead.{opening, member-over, member-bad, member-trade, member-opens}
 
 -- ---- how large a tally is
 
-pub small-roomy : {t : Tally} {at : ℕ} → SmallTally t at → at ≤ 2 ^ 20 → RoomyTally t
-small-roomy s h = record {
+pub tally-roomy : {t : Tally} {at : ℕ} → TallyUpTo t at → at ≤ 2 ^ 20 → TallyRoomy t
+tally-roomy s h = record {
   gains = omega (arith, s .weight);
   losses = omega (arith, s .losses);
   gross = omega (arith, s .weight);
@@ -76,12 +76,12 @@ module _ (bands : Bands) {ws : List ℕ} {begin : ℕ} {t : Tally} {at : ℕ} (s
     unfolding memberTurn tradeTurn
     trade-turn = simp k
 
-    pub trade-lacks : l ≡ true → fromMember bands ws begin t at ≡ endsWith (broken 6 at)
+    pub trade-lacks : l ≡ true → fromMember bands ws begin t at ≡ endsWith (refused 6 at)
     trade-lacks e =
         member-bad bands ws begin t at (s .within) 6 at (trade-turn ∙ turn-lacks ws at 5 (stands-is 5 ws at k .1) tradeFaultAt (some (trade (tradeAt ws at)) 0) (sym lq ∙ e)) (λ z. omega arith)
 
     module _ (e : l ≡ false) {f : ℕ} (fq : f ≡ tradeFaultAt) where
-      pub trade-wrong : (f ≡ 0 → ⊥) → fromMember bands ws begin t at ≡ endsWith (broken f at)
+      pub trade-wrong : (f ≡ 0 → ⊥) → fromMember bands ws begin t at ≡ endsWith (refused f at)
       trade-wrong n =
           member-bad bands ws begin t at (s .within) f at
           (trade-turn ∙ turn-fault ws at 5 (stands-is 5 ws at k .1) tradeFaultAt (some (trade (tradeAt ws at)) 0) (sym lq ∙ e) (λ z. n (fq ∙ z)) ∙ ap (λ (x : ℕ). bad x at) (sym fq)) n
@@ -90,7 +90,7 @@ module _ (bands : Bands) {ws : List ℕ} {begin : ℕ} {t : Tally} {at : ℕ} (s
         trade-is : memberTurn ws at ≡ some (trade (tradeAt ws at)) 0 (at + 5)
         trade-is = trade-turn ∙ turn-on ws at 5 (stands-is 5 ws at k .1) tradeFaultAt (some (trade (tradeAt ws at)) 0) (sym lq ∙ e) (sym fq ∙ z)
 
-        trade-small : SmallTally (plusMember bands t (trade (tradeAt ws at))) (at + 5)
+        trade-small : TallyUpTo (plusMember bands t (trade (tradeAt ws at))) (at + 5)
         unfolding tradeAt
         trade-small =
             let w : FineTurn (length ws) perWord (memberWeight bands) at (some (trade (tradeAt ws at)) 0 (at + 5)) = rw trade-is at (fine-member bands ws at (s .within)) in
@@ -136,12 +136,12 @@ module _ (bands : Bands) {ws : List ℕ} {begin : ℕ} {t : Tally} {at : ℕ} (s
     unfolding memberTurn writtenTurn
     written-turn = simp (no-trade, k)
 
-    pub written-lacks : l ≡ true → fromMember bands ws begin t at ≡ endsWith (broken 6 at)
+    pub written-lacks : l ≡ true → fromMember bands ws begin t at ≡ endsWith (refused 6 at)
     written-lacks e =
         member-bad bands ws begin t at (s .within) 6 at (written-turn ∙ turn-lacks ws at 6 (stands-is 6 ws at k .1) writtenFaultAt covers (sym lq ∙ e)) (λ z. omega arith)
 
     module _ (e : l ≡ false) {f : ℕ} (fq : f ≡ writtenFaultAt) where
-      pub written-wrong : (f ≡ 0 → ⊥) → fromMember bands ws begin t at ≡ endsWith (broken f at)
+      pub written-wrong : (f ≡ 0 → ⊥) → fromMember bands ws begin t at ≡ endsWith (refused f at)
       written-wrong n =
           member-bad bands ws begin t at (s .within) f at
           (written-turn ∙ turn-fault ws at 6 (stands-is 6 ws at k .1) writtenFaultAt covers (sym lq ∙ e) (λ z. n (fq ∙ z)) ∙ ap (λ (x : ℕ). bad x at) (sym fq)) n

@@ -9,8 +9,8 @@ use Rattle.rules.specs.declared.Draw.{Draw}
 use Rattle.derivatives.specs.declared.tally.Tally.{Tally}
 use Rattle.derivatives.specs.declared.set.OpenSet.{OpenSet}
 use Rattle.derivatives.specs.declared.members.MemberStep.{MemberStep}
-use Rattle.derivatives.specs.declared.members.MemberStep.the-variants.{Next, Drawing, End, Stop}
-use Rattle.derivatives.specs.Ahead.{gathered, broken, endsWith, after, setAhead, SmallTally, SoundSet, stepAhead, SoundStep}
+use Rattle.derivatives.specs.declared.members.MemberStep.the-variants.{Next, Cover, End, Refused}
+use Rattle.derivatives.specs.Ahead.{gathered, refused, endsWith, after, setAhead, TallyUpTo, SoundSet, stepAhead, SoundStep}
 
 pub record Weighing (bands : Bands) (ws : List ℕ) (begin : ℕ) (from o : OpenSet) : Type 0 where
   pub same : setAhead bands ws begin from ≡ setAhead bands ws begin o
@@ -31,17 +31,17 @@ module _ (bands : Bands) (ws : List ℕ) (begin : ℕ) (from o : OpenSet) (i : W
     pub weighing-onward : length ws - next .at < length ws - o .at
     weighing-onward = omega (arith, stepped .1 .1, stepped .1 .0 .within)
 
-  pub weighing-draws : (d : Draw) (next : OpenSet) → r ≡ Drawing d next → (setAhead bands ws begin from ≡ after (d ∷ []) (setAhead bands ws begin next)) × SoundSet ws begin next
-  weighing-draws d next e =
+  pub weighing-cover : (d : Draw) (next : OpenSet) → r ≡ Cover d next → (setAhead bands ws begin from ≡ after (d ∷ []) (setAhead bands ws begin next)) × SoundSet ws begin next
+  weighing-cover d next e =
       let s : (setAhead bands ws begin o ≡ after (d ∷ []) (setAhead bands ws begin next)) × SoundSet ws begin next = rw e at q in
       (i .same ∙ s .0, s .1)
 
-  pub weighing-ends : (t : Tally) → r ≡ End t → (setAhead bands ws begin from ≡ endsWith (gathered t (o .at))) × (SmallTally t (o .at) × (o .at ≤ length ws))
+  pub weighing-ends : (t : Tally) → r ≡ End t → (setAhead bands ws begin from ≡ endsWith (gathered t (o .at))) × (TallyUpTo t (o .at) × (o .at ≤ length ws))
   weighing-ends t e =
-      let s : (setAhead bands ws begin o ≡ endsWith (gathered t (o .at))) × SmallTally t (o .at) = rw e at q in
+      let s : (setAhead bands ws begin o ≡ endsWith (gathered t (o .at))) × TallyUpTo t (o .at) = rw e at q in
       (i .same ∙ s .0, (s .1, i .sound .within))
 
-  pub weighing-stops : (number place : ℕ) → r ≡ Stop number place → (setAhead bands ws begin from ≡ endsWith (broken number place)) × (place ≤ length ws)
-  weighing-stops number place e =
-      let s : (setAhead bands ws begin o ≡ endsWith (broken number place)) × (place ≤ length ws) = rw e at q in
+  pub weighing-refused : (number place : ℕ) → r ≡ Refused number place → (setAhead bands ws begin from ≡ endsWith (refused number place)) × (place ≤ length ws)
+  weighing-refused number place e =
+      let s : (setAhead bands ws begin o ≡ endsWith (refused number place)) × (place ≤ length ws) = rw e at q in
       (i .same ∙ s .0, s .1)

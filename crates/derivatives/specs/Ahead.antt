@@ -8,7 +8,8 @@ use lib.ListN.{length}
 use Rattle.rules.specs.declared.Bands.{Bands}
 use Rattle.rules.specs.declared.Draw.{Draw}
 use Rattle.rules.specs.Word.{word, fieldOf, sizeOf}
-use Rattle.rules.specs.Book.{Cover, Member, total}
+use Rattle.rules.specs.Book.{Member, total}
+use Rattle.rules.specs.Book as book
 use Rattle.rules.specs.Faults.{coverFault, derivativeSetFault}
 use Rattle.rules.specs.Run.{Run, runFrom}
 use Rattle.rules.specs.Read.{lacks, coverTurn, writtenAt, memberTurn}
@@ -17,9 +18,10 @@ use Rattle.derivatives.specs.declared.tally.Tally.{Tally}
 use Rattle.derivatives.specs.declared.covers.OpenCredit.{OpenCredit}
 use Rattle.derivatives.specs.declared.set.OpenSet.{OpenSet}
 use Rattle.derivatives.specs.declared.set.Weighed.{Weighed}
-use Rattle.derivatives.specs.declared.set.Weighed.the-variants.{Covering, Whole, Refused}
+use Rattle.derivatives.specs.declared.set.Weighed.the-variants.{Cover, Whole, Refused}
 use Rattle.derivatives.specs.declared.members.MemberStep.{MemberStep}
-use Rattle.derivatives.specs.declared.members.MemberStep.the-variants.{Next, Drawing, End, Stop}
+use Rattle.derivatives.specs.declared.members.MemberStep.the-variants.{Next, End}
+use Rattle.derivatives.specs.declared.members.MemberStep.the-variants as step
 use Rattle.derivatives.specs.Gathered.{noTally, plusMembers, plusWritten}
 
 -- ---- what lies ahead
@@ -27,7 +29,7 @@ use Rattle.derivatives.specs.Gathered.{noTally, plusMembers, plusWritten
 -- all members, with their tally and the place behind them; or the first fault
 pub data Ending : Type 0 where
   gathered : Tally → (place : ℕ) → Ending
-  broken : (number place : ℕ) → Ending
+  refused : (number place : ℕ) → Ending
 
 pub record SetAhead : Type 0 where
   pub ending : Ending
@@ -41,7 +43,7 @@ after ds a = record { ending = a .ending; draws = ds ++ a .draws }
 
 abbrev pub endingBy : (number : ℕ) → Tally → (place : ℕ) → Ending
 endingBy zero t place = gathered t place
-endingBy (suc number) t place = broken (suc number) place
+endingBy (suc number) t place = refused (suc number) place
 
 -- from a member on: the run of the members, on top of a tally. The set begins at a place of the book.
 abbrev pub membersAhead : Bands → (begin : ℕ) → Tally → Run Member → SetAhead
@@ -54,12 +56,12 @@ fromMember bands ws begin t at = membersAhead bands begin t (runFrom (memberTurn
 abbrev pub tallyWith : List ℕ → Tally → OpenCredit → (more : ℕ) → Tally
 tallyWith ws t c more = plusWritten t (writtenAt ws (c .place) []) (c .covered + more)
 
-abbrev pub coversBy : Bands → List ℕ → (begin : ℕ) → Tally → OpenCredit → (number : ℕ) → List Cover → (place : ℕ) → SetAhead
+abbrev pub coversBy : Bands → List ℕ → (begin : ℕ) → Tally → OpenCredit → (number : ℕ) → List book.Cover → (place : ℕ) → SetAhead
 coversBy bands ws begin t c zero cs place =
-    after (drawsFrom begin (c .room) (writtenAt ws (c .place) []) cs) (fromMember bands ws begin (tallyWith ws t c (total (λ (x : Cover). x .amount) cs)) place)
-coversBy bands ws begin t c (suc number) cs place = after (drawsFrom begin (c .room) (writtenAt ws (c .place) []) cs) (endsWith (broken (suc number) place))
+    after (drawsFrom begin (c .room) (writtenAt ws (c .place) []) cs) (fromMember bands ws begin (tallyWith ws t c (total (λ (x : book.Cover). x .amount) cs)) place)
+coversBy bands ws begin t c (suc number) cs place = after (drawsFrom begin (c .room) (writtenAt ws (c .place) []) cs) (endsWith (refused (suc number) place))
 
-abbrev pub coversAhead : Bands → List ℕ → (begin : ℕ) → Tally → OpenCredit → Run Cover → SetAhead
+abbrev pub coversAhead : Bands → List ℕ → (begin : ℕ) → Tally → OpenCredit → Run book.Cover → SetAhead
 coversAhead bands ws begin t c r = coversBy bands ws begin t c (r .number) (r .records) (r .place)
 
 unfoldable pub fromCover : Bands → List ℕ → (begin : ℕ) → Tally → OpenCredit → (at : ℕ) → SetAhead
@@ -97,12 +99,12 @@ unfoldable pub setCause : List ℕ → ℕ
 setCause ws = cond (lacks 3 ws 0) 6 (derivativeSetFault (word ws 0) (word ws 1) (word ws 2) (word ws 3))
 
 -- its members stand behind its three amounts
-abbrev pub openedSet : OpenSet
-openedSet = record { at = 4; tally = noTally; credit = noCredit }
+abbrev pub newSet : OpenSet
+newSet = record { at = 4; tally = noTally; credit = noCredit }
 
 -- ---- how large it all is: 2 ^ 41 for each word behind the head
 
-pub record SmallTally (t : Tally) (at : ℕ) : Type 0 where
+pub record TallyUpTo (t : Tally) (at : ℕ) : Type 0 where
   pub weight : 2000 * t .gains + 2 * t .gross + 1000 * t .written + 1000 * t .covered + 2 ^ 41 * 4 ≤ 2 ^ 41 * at
   pub losses : t .losses ≤ 2 ^ 27 * at
   pub uncovered : t .uncovered ≤ t .gross
@@ -120,37 +122,37 @@ gatheredTo o = cond (o .credit .allowed) (o .credit .place) (o .at)
 pub record SoundSet (ws : List ℕ) (begin : ℕ) (o : OpenSet) : Type 0 where
   pub short : begin + length ws ≤ 2 ^ 20
   pub within : o .at ≤ length ws
-  pub small : SmallTally (o .tally) (gatheredTo o)
+  pub small : TallyUpTo (o .tally) (gatheredTo o)
   pub credit : o .credit .allowed ≡ true → OpenIn ws (o .credit) (o .at)
 
 -- where a member is due, with a tally of all before
 pub record Standing (ws : List ℕ) (begin at : ℕ) (t : Tally) : Type 0 where
   pub short : begin + length ws ≤ 2 ^ 20
   pub within : at ≤ length ws
-  pub small : SmallTally t at
+  pub small : TallyUpTo t at
 
 -- ---- the answers
 
 -- one step: a member more, a cover to be drawn, no member, or a fault
 abbrev pub stepAhead : Bands → List ℕ → (begin at : ℕ) → MemberStep → SetAhead
 stepAhead bands ws begin at (Next o) = setAhead bands ws begin o
-stepAhead bands ws begin at (Drawing d o) = after (d ∷ []) (setAhead bands ws begin o)
+stepAhead bands ws begin at (step.Cover d o) = after (d ∷ []) (setAhead bands ws begin o)
 stepAhead bands ws begin at (End t) = endsWith (gathered t at)
-stepAhead bands ws begin at (Stop number place) = endsWith (broken number place)
+stepAhead bands ws begin at (step.Refused number place) = endsWith (refused number place)
 
 abbrev pub SoundStep : List ℕ → (begin at : ℕ) → MemberStep → Type 0
 SoundStep ws begin at (Next o) = SoundSet ws begin o × (at < o .at)
-SoundStep ws begin at (Drawing d o) = SoundSet ws begin o
-SoundStep ws begin at (End t) = SmallTally t at
-SoundStep ws begin at (Stop number place) = place ≤ length ws
+SoundStep ws begin at (step.Cover d o) = SoundSet ws begin o
+SoundStep ws begin at (End t) = TallyUpTo t at
+SoundStep ws begin at (step.Refused number place) = place ≤ length ws
 
 -- the next cover, or the end
 abbrev pub weighedAhead : Bands → List ℕ → (begin : ℕ) → Weighed → SetAhead
-weighedAhead bands ws begin (Covering d o) = after (d ∷ []) (setAhead bands ws begin o)
+weighedAhead bands ws begin (Cover d o) = after (d ∷ []) (setAhead bands ws begin o)
 weighedAhead bands ws begin (Whole t place) = endsWith (gathered t place)
-weighedAhead bands ws begin (Refused number place) = endsWith (broken number place)
+weighedAhead bands ws begin (Refused number place) = endsWith (refused number place)
 
 abbrev pub SoundWeighed : List ℕ → (begin : ℕ) → Weighed → Type 0
-SoundWeighed ws begin (Covering d o) = SoundSet ws begin o
-SoundWeighed ws begin (Whole t place) = SmallTally t place × (place ≤ length ws)
+SoundWeighed ws begin (Cover d o) = SoundSet ws begin o
+SoundWeighed ws begin (Whole t place) = TallyUpTo t place × (place ≤ length ws)
 SoundWeighed ws begin (Refused number place) = place ≤ length ws

@@ -97,7 +97,7 @@ plusMembers bands t members = record {
 }
 
 -- the tally leaves room for one member more
-pub record RoomyTally (t : Tally) : Type 0 where
+pub record TallyRoomy (t : Tally) : Type 0 where
   pub gains : t .gains ≤ 2 ^ 62
   pub losses : t .losses ≤ 2 ^ 62
   pub gross : t .gross ≤ 2 ^ 62
@@ -140,7 +140,7 @@ plusSet s d t = record {
 }
 
 -- so much as a set of a book can come to at most
-pub record Weighable (t : Tally) : Type 0 where
+pub record TallyFits (t : Tally) : Type 0 where
   pub weight : 2000 * t .gains + 2 * t .gross + 1000 * t .written + 1000 * t .covered ≤ 2 ^ 61
   pub losses : t .losses ≤ 2 ^ 61
   pub uncovered : t .uncovered ≤ t .gross

@@ -29,14 +29,16 @@ pub struct OpenCredit {
     pub room: u32,
 }
 
-pub fn no_credit() -> OpenCredit
-    ensures { λ r. ⌜ r ≡ noCredit ⌝ }
-{
-    OpenCredit {
-        allowed: false,
-        place: 0,
-        covered: 0,
-        room: 0,
+impl OpenCredit {
+    pub fn none() -> OpenCredit
+        ensures { λ r. ⌜ r ≡ noCredit ⌝ }
+    {
+        OpenCredit {
+            allowed: false,
+            place: 0,
+            covered: 0,
+            room: 0,
+        }
     }
 }
 

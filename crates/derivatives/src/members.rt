@@ -3,7 +3,6 @@ use crate::covers::OpenCredit;
 use crate::covers::cover_cause;
 use crate::covers::cover_due;
 use crate::covers::draw_here;
-use crate::covers::no_credit;
 use crate::covers::with_cover;
 use crate::faults::trade_fault;
 use crate::faults::written_fault;
@@ -22,15 +21,15 @@ ghost use mathlib.Core.Path.{_≡_};
 ghost use mathlib.Core.Bool.{true, false};
 ghost use denote.Ref.{now};
 ghost use Rattle.rules.specs.Read.{stands};
-ghost use Rattle.derivatives.specs.Ahead.{Standing, SmallTally, SoundSet, SoundStep, fromCover, fromMember, setAhead, stepAhead};
+ghost use Rattle.derivatives.specs.Ahead.{Standing, TallyUpTo, SoundSet, SoundStep, fromCover, fromMember, setAhead, stepAhead};
 
 // The set with one member more; the next cover, and the set behind it; no member, and the tally of all; or the number and the place of
 // the first fault.
 pub enum MemberStep {
     Next(OpenSet),
-    Drawing(Draw, OpenSet),
+    Cover(Draw, OpenSet),
     End(Tally),
-    Stop(u32, usize),
+    Refused { number: u32, place: usize },
 }
 
 // Where a credit is open its covers come first; any other record closes it.
@@ -57,7 +56,10 @@ fn cover(part: &[u32], begin: usize, o: OpenSet, bands: Bands) -> MemberStep
     let c = o.credit;
     let cause = cover_cause(part, at);
     if cause != causes::NONE {
-        return MemberStep::Stop(cause, at);
+        return MemberStep::Refused {
+            number: cause,
+            place: at,
+        };
     }
     let draw = draw_here(part, begin, at, c);
     let next = OpenSet {
@@ -65,13 +67,13 @@ fn cover(part: &[u32], begin: usize, o: OpenSet, bands: Bands) -> MemberStep
         tally: t,
         credit: with_cover(c, draw.amount),
     };
-    MemberStep::Drawing(draw, next)
+    MemberStep::Cover(draw, next)
 }
 
 // The tally with the open credit in it, now that its covers are over.
 fn closed(part: &[u32], begin: usize, o: OpenSet, bands: Bands) -> Tally
     requires { ⌜ SoundSet (now part) begin o × (o .credit .allowed ≡ true → stands 7 (now part) (o .at) ≡ false) ⌝ }
-    ensures { λ r. ⌜ (setAhead bands (now (part .entry)) begin o ≡ fromMember bands (now (part .entry)) begin r (o .at)) × SmallTally r (o .at) ⌝ }
+    ensures { λ r. ⌜ (setAhead bands (now (part .entry)) begin o ≡ fromMember bands (now (part .entry)) begin r (o .at)) × TallyUpTo r (o .at) ⌝ }
 {
     let c = o.credit;
     let t = o.tally;
@@ -115,7 +117,10 @@ fn trade(part: &[u32], begin: usize, at: usize, t: Tally, bands: Bands) -> Membe
         × SoundStep (now (part .entry)) begin at r ⌝ }
 {
     if lacking(part, at, amounts::TRADE) {
-        return MemberStep::Stop(causes::WORDS_LACKING, at);
+        return MemberStep::Refused {
+            number: causes::WORDS_LACKING,
+            place: at,
+        };
     }
     let w = part[at];
     let value = part[at + 1];
@@ -124,12 +129,15 @@ fn trade(part: &[u32], begin: usize, at: usize, t: Tally, bands: Bands) -> Membe
     let reset_days = part[at + 4];
     let fault = trade_fault(w, value, notional, days, reset_days);
     if fault != causes::NONE {
-        return MemberStep::Stop(fault, at);
+        return MemberStep::Refused {
+            number: fault,
+            place: at,
+        };
     }
     let next = OpenSet {
         at: at + lengths::TRADE,
         tally: t.add_trade(bands, w, value, notional, days, reset_days),
-        credit: no_credit(),
+        credit: OpenCredit::none(),
     };
     MemberStep::Next(next)
 }
@@ -141,7 +149,10 @@ fn written(part: &[u32], begin: usize, at: usize, t: Tally, bands: Bands) -> Mem
         × SoundStep (now (part .entry)) begin at r ⌝ }
 {
     if lacking(part, at, amounts::WRITTEN_CREDIT) {
-        return MemberStep::Stop(causes::WORDS_LACKING, at);
+        return MemberStep::Refused {
+            number: causes::WORDS_LACKING,
+            place: at,
+        };
     }
     let notional = part[at + 2];
     let loss_taken = part[at + 3];
@@ -154,7 +165,10 @@ fn written(part: &[u32], begin: usize, at: usize, t: Tally, bands: Bands) -> Mem
         part[at + 5],
     );
     if fault != causes::NONE {
-        return MemberStep::Stop(fault, at);
+        return MemberStep::Refused {
+            number: fault,
+            place: at,
+        };
     }
     let credit = OpenCredit {
         allowed: true,

@@ -14,8 +14,8 @@ ghost use mathlib.Core.Bool.{_&&_};
 ghost use mathlib.Core.List.{[]};
 ghost use Prim.Native.Nat.{_-_, _^_, _≤_, _<_};
 ghost use Rattle.rules.specs.Word.{bitOf};
-ghost use Rattle.records.specs.Step.{Roomy};
-ghost use Rattle.derivatives.specs.Gathered.{Weighable, plusSet, replacedBy, setOf, weightedBy};
+ghost use Rattle.records.specs.Step.{SumsRoomy};
+ghost use Rattle.derivatives.specs.Gathered.{TallyFits, plusSet, replacedBy, setOf, weightedBy};
 
 // "bits 0 to 4 are all 1": cash margin counts as payment.
 fn margin_counts(w: u32) -> bool
@@ -58,7 +58,7 @@ fn weighted_rest(netting: bool, gains: u64, losses: u64, x: u64, uncovered: u64,
 
 // The sums with a set of these words that has gathered this tally.
 pub fn with_set(mut s: Sums, w: u32, received: u32, paid: u32, posted: u32, t: Tally) -> Sums
-    requires { ⌜ Roomy s × Weighable t ⌝ }
+    requires { ⌜ SumsRoomy s × TallyFits t ⌝ }
     ensures { λ r. ⌜ r ≡ plusSet s (setOf w received paid posted []) t ⌝ }
 {
     let netting = bit(w, payloads::SET_NETTING);

@@ -1,6 +1,5 @@
 // The members of a derivative set, one after the other, up to the next cover.
 use crate::covers::OpenCredit;
-use crate::covers::no_credit;
 use crate::members::MemberStep;
 use crate::members::member;
 use crate::tally::Tally;
@@ -9,7 +8,7 @@ use rules::Draw;
 use rules::lengths;
 ghost use mathlib.Core.Path.{_≡_};
 ghost use denote.Ref.{now};
-ghost use Rattle.derivatives.specs.Ahead.{SoundSet, SoundWeighed, openedSet, setAhead, weighedAhead};
+ghost use Rattle.derivatives.specs.Ahead.{SoundSet, SoundWeighed, newSet, setAhead, weighedAhead};
 
 // A set that is being read: the place of its next member or cover, what its members so far come to, and the written credit whose
 // covers may follow, which is not in the tally yet. Places count from the set's head.
@@ -22,19 +21,21 @@ pub struct OpenSet {
 // The next cover of the set, and the set behind it; what all its members come to and the place behind them; or the number and the
 // place of the first fault.
 pub enum Weighed {
-    Covering(Draw, OpenSet),
+    Cover(Draw, OpenSet),
     Whole(Tally, usize),
-    Refused(u32, usize),
+    Refused { number: u32, place: usize },
 }
 
-// A set whose head was read: its members stand behind its three amounts.
-pub fn opened() -> OpenSet
-    ensures { λ r. ⌜ r ≡ openedSet ⌝ }
-{
-    OpenSet {
-        at: lengths::DERIVATIVE_SET,
-        tally: Tally::new(),
-        credit: no_credit(),
+impl OpenSet {
+    // A set whose head was read: its members stand behind its three amounts.
+    pub fn new() -> OpenSet
+        ensures { λ r. ⌜ r ≡ newSet ⌝ }
+    {
+        OpenSet {
+            at: lengths::DERIVATIVE_SET,
+            tally: Tally::none(),
+            credit: OpenCredit::none(),
+        }
     }
 }
 
@@ -50,14 +51,14 @@ pub fn weigh(part: &[u32], begin: usize, from: OpenSet, bands: Bands) -> Weighed
             MemberStep::Next(next) => {
                 o = next;
             }
-            MemberStep::Drawing(draw, next) => {
-                return Weighed::Covering(draw, next);
+            MemberStep::Cover(draw, next) => {
+                return Weighed::Cover(draw, next);
             }
             MemberStep::End(t) => {
                 return Weighed::Whole(t, o.at);
             }
-            MemberStep::Stop(number, place) => {
-                return Weighed::Refused(number, place);
+            MemberStep::Refused { number, place } => {
+                return Weighed::Refused { number, place };
             }
         }
     }

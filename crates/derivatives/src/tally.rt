@@ -17,7 +17,7 @@ ghost use Prim.Native.Nat.{_≤_, _^_};
 ghost use Rattle.rules.specs.Word.{sizeOf};
 ghost use Rattle.rules.specs.Book.{trade};
 ghost use Rattle.rules.specs.Weigh.{keptIn, tradeAddOn, writtenAddOn};
-ghost use Rattle.derivatives.specs.Gathered.{RoomyTally, noTally, plusMember, plusWritten, tradeOf, writtenOf};
+ghost use Rattle.derivatives.specs.Gathered.{TallyRoomy, noTally, plusMember, plusWritten, tradeOf, writtenOf};
 
 // The gains and losses of the values, the gross add-on, those of written credits without cover, notional less loss of written
 // credits, and their covers. Add-ons are in thousandths, all else in units.
@@ -31,7 +31,7 @@ pub struct Tally {
 }
 
 impl Tally {
-    pub fn new() -> Tally
+    pub fn none() -> Tally
         ensures { λ r. ⌜ r ≡ noTally ⌝ }
     {
         Tally {
@@ -53,7 +53,7 @@ impl Tally {
         days: u32,
         reset_days: u32,
     ) -> Tally
-        requires { ⌜ RoomyTally self ⌝ }
+        requires { ⌜ TallyRoomy self ⌝ }
         ensures { λ r. ⌜ r ≡ plusMember bands self (trade (tradeOf w value notional days «reset_days»)) ⌝ }
     {
         let add_on = trade_add_on(bands, w, notional, days, reset_days);
@@ -72,7 +72,7 @@ impl Tally {
         premiums: u32,
         covered: u64,
     ) -> Tally
-        requires { ⌜ RoomyTally self × ((sizeOf «loss_taken» ≤ sizeOf notional) × (covered ≤ 2 ^ 62)) ⌝ }
+        requires { ⌜ TallyRoomy self × ((sizeOf «loss_taken» ≤ sizeOf notional) × (covered ≤ 2 ^ 62)) ⌝ }
         ensures { λ r. ⌜ r ≡ plusWritten self (writtenOf w value notional «loss_taken» 0 premiums []) covered ⌝ }
     {
         let add_on = written_add_on(w, notional, premiums);

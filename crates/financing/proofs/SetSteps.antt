@@ -19,15 +19,16 @@ use Rattle.rules.proofs.Lists.{total-le-all}
 use Rattle.rules.proofs.Runs.{fine-run}
 use Rattle.records.specs.Readable.{Readable}
 use Rattle.records.specs.Step.{plusItem, itemStep}
-use Rattle.records.specs.declared.ItemStep.the-variants.{Next, Stop}
+use Rattle.records.specs.declared.ItemStep.the-variants.{Next}
+use Rattle.records.specs.declared.ItemStep.the-variants as item
 use Rattle.records.proofs.Words.{turn-fault, turn-on}
 use Rattle.theorems.proofs.MemberBounds.{perWord, financingWeight, financing-total, fine-financing-member}
 use Rattle.theorems.proofs.Financing.{netted-at-most}
 use Rattle.financing.specs.declared.tally.FinancingTally.{FinancingTally}
 use Rattle.financing.specs.declared.trades.Weighed.{Weighed}
-use Rattle.financing.specs.declared.trades.Weighed.the-variants.{Whole, Broken}
+use Rattle.financing.specs.declared.trades.Weighed.the-variants.{Whole, Refused}
 use Rattle.financing.specs.Netting.{NeverFall}
-use Rattle.financing.specs.Weighing.{noTally, tallyFrom, excessIn, weighedTo, weighedOf, tradesOf, plusSet, Light}
+use Rattle.financing.specs.Weighing.{noTally, tallyFrom, excessIn, weighedTo, weighedOf, tradesOf, plusSet, TallyFits}
 use Rattle.financing.proofs.Order.{never-fall}
 use Rattle.financing.proofs.Tallies.{tally-assets, tally-lent, tally-received, tally-excess, tally-netted}
 
@@ -56,7 +57,7 @@ module _ (ts : List FinancingTrade) where
   unfolding plusSet financingSetAt excessOf
   plus-is bands s ws h = simp (add-zero, first-assets, first-lent, first-received, first-excess, tally-netted ts h)
 
-  light : NeverFall 0 ts → total financingWeight ts ≤ 2 ^ 61 → Light (tallyFrom noTally ts)
+  light : NeverFall 0 ts → total financingWeight ts ≤ 2 ^ 61 → TallyFits (tallyFrom noTally ts)
   light h l = record {
     assets = omega (
       arith,
@@ -81,10 +82,10 @@ module _ (bands : Bands) (s : Sums) (ws : List ℕ) (p : Readable 1 ws) (k : kin
   behind next = withTrades ws (runFrom (financingMemberTurn ws) (suc (length ws)) next)
 
   module _ (f : ℕ) (fq : f ≡ financingSetFault (word ws 0)) where
-    pub set-stop : (f ≡ 0 → ⊥) → Stop f 0 ≡ itemStep bands s (financingSetTurn ws)
+    pub set-faulty : (f ≡ 0 → ⊥) → item.Refused f 0 ≡ itemStep bands s (financingSetTurn ws)
     unfolding financingSetTurn lacks behind
-    set-stop n =
-        ap (λ (x : ℕ). Stop x 0) fq
+    set-faulty n =
+        ap (λ (x : ℕ). item.Refused x 0) fq
         ∙ sym (ap (λ (t : Turn Item). itemStep bands s t) (turn-fault ws 0 8 k (financingSetFault (word ws 0)) behind refl (λ z. n (fq ∙ z))))
 
     module _ (z : f ≡ 0) where
@@ -93,12 +94,12 @@ module _ (bands : Bands) (s : Sums) (ws : List ℕ) (p : Readable 1 ws) (k : kin
       trades-read = turn-on ws 0 8 k (financingSetFault (word ws 0)) behind refl (sym fq ∙ z)
 
       module _ (r : Weighed) (rq : r ≡ weighedOf noTally (tradesOf ws)) where
-        pub set-broken : (number place : ℕ) → r ≡ Broken number place → Stop number place ≡ itemStep bands s (financingSetTurn ws)
-        set-broken number place e =
+        pub set-refused : (number place : ℕ) → r ≡ Refused number place → item.Refused number place ≡ itemStep bands s (financingSetTurn ws)
+        set-refused number place e =
             go (tradesOf ws .records) (tradesOf ws .number) (tradesOf ws .place) (sym rq ∙ e) ∙ sym (ap (λ (t : Turn Item). itemStep bands s t) trades-read)
           where
-            go : (ts : List FinancingTrade) (n q : ℕ) → weighedTo (tallyFrom noTally ts) n q ≡ Broken number place
-                → Stop number place ≡ itemStep bands s (some (financing (financingSetAt ws ts)) n q)
+            go : (ts : List FinancingTrade) (n q : ℕ) → weighedTo (tallyFrom noTally ts) n q ≡ Refused number place
+                → item.Refused number place ≡ itemStep bands s (some (financing (financingSetAt ws ts)) n q)
             go ts zero q w = let y : _≡_ {A = ℕ} 0 1 = cc in absurd (omega arith)
             go ts (suc n) q w = cc
 
@@ -113,8 +114,8 @@ module _ (bands : Bands) (s : Sums) (ws : List ℕ) (p : Readable 1 ws) (k : kin
               go ts zero q w = cc
               go ts (suc n) q w = let y : _≡_ {A = ℕ} 0 1 = cc in absurd (omega arith)
 
-          pub set-light : Light t
-          set-light =
+          pub set-fits : TallyFits t
+          set-fits =
               let b = fine-run (length ws) perWord financingWeight (financingMemberTurn ws) (fine-financing-member ws) (suc (length ws)) 1 (p .within) in
               let l : total financingWeight (tradesOf ws .records) ≤ 2 ^ 61 = omega (arith, b .small, b .within, p .short) in
               rw tally-is at (light (tradesOf ws .records) fall l)

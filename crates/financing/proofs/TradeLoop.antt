@@ -16,8 +16,8 @@ use Rattle.theorems.proofs.Records.{lacks-room}
 use Rattle.records.proofs.Words.{turn-lacks, turn-fault, turn-on}
 use Rattle.theorems.proofs.Records.{stands-is}
 use Rattle.financing.specs.declared.tally.FinancingTally.{FinancingTally}
-use Rattle.financing.specs.declared.trades.Weighed.the-variants.{Whole, Broken}
-use Rattle.financing.specs.Weighing.{noTally, settled, tallied, tallyFrom, weighedTo, weighedOf, tradesOf, ownFaultAt, tradeFaultAt, Room}
+use Rattle.financing.specs.declared.trades.Weighed.the-variants.{Whole, Refused}
+use Rattle.financing.specs.Weighing.{noTally, settled, tallied, tallyFrom, weighedTo, weighedOf, tradesOf, ownFaultAt, tradeFaultAt, TallyRoomy}
 use Rattle.financing.proofs.Order.{days-first, days-behind}
 
 -- a tally at a place of the part: what is left weighs to the whole, its day is that of the trade before, and its sums are small
@@ -44,8 +44,8 @@ at-first ws t h k e = record {
 }
 
 module _ (ws : List ℕ) (t : FinancingTally) (at : ℕ) (i : AtTrade ws t at) where
-  pub tally-room : length ws ≤ 2 ^ 20 → Room t
-  tally-room h = record {
+  pub tally-roomy : length ws ≤ 2 ^ 20 → TallyRoomy t
+  tally-roomy h = record {
     assets = omega (arith, i .assets, i .along .within);
     lent = omega (arith, i .lent, i .along .within);
     received = omega (arith, i .received, i .along .within);
@@ -89,11 +89,11 @@ module _ (ws : List ℕ) (t : FinancingTally) (at : ℕ) (i : AtTrade ws t at) w
             go true l q = turn-lacks ws at 9 (there .1) fault (some (financingTradeAt ws at) 0) l ∙ ap (λ (x : ℕ). bad x at) (sym q)
             go false l q = turn-fault ws at 9 (there .1) fault (some (financingTradeAt ws at) 0) l (λ z. n (q ∙ z)) ∙ ap (λ (x : ℕ). bad x at) (sym q)
 
-        pub trade-stop : (f ≡ 0 → ⊥) → Broken f at ≡ weighedOf noTally (tradesOf ws)
+        pub trade-stop : (f ≡ 0 → ⊥) → Refused f at ≡ weighedOf noTally (tradesOf ws)
         unfolding tallyFrom
         trade-stop n = go f n ∙ along-bad (length ws) (financingMemberTurn ws) weighedOf _ t at (i .along) f at (here ∙ trade-bad n)
           where
-            go : (g : ℕ) → (g ≡ 0 → ⊥) → Broken g at ≡ weighedTo t g at
+            go : (g : ℕ) → (g ≡ 0 → ⊥) → Refused g at ≡ weighedTo t g at
             go zero m = absurd (m refl)
             go (suc g) m = refl
 

@@ -13,7 +13,7 @@ use Rattle.rules.specs.Faults.{cause, financingTradeFault}
 use Rattle.rules.specs.Read.{lacks, financingMemberTurn}
 use Rattle.financing.specs.declared.tally.FinancingTally.{FinancingTally}
 use Rattle.financing.specs.declared.trades.Weighed.{Weighed}
-use Rattle.financing.specs.declared.trades.Weighed.the-variants.{Whole, Broken}
+use Rattle.financing.specs.declared.trades.Weighed.the-variants.{Whole, Refused}
 
 -- ---- one trade
 
@@ -89,7 +89,7 @@ excessIn netting t = cond netting (t .lent - t .received) (t .excess)
 
 abbrev pub weighedTo : FinancingTally → (number place : ℕ) → Weighed
 weighedTo t zero place = Whole t place
-weighedTo t (suc number) place = Broken (suc number) place
+weighedTo t (suc number) place = Refused (suc number) place
 
 abbrev pub weighedOf : FinancingTally → Run FinancingTrade → Weighed
 weighedOf t r = weighedTo (tallyFrom t (r .records)) (r .number) (r .place)
@@ -122,7 +122,7 @@ plusSet s t w = record {
 -- ---- what fits 64 bits
 
 -- a tally that leaves room for one trade more
-pub record Room (t : FinancingTally) : Type 0 where
+pub record TallyRoomy (t : FinancingTally) : Type 0 where
   pub assets : t .assets ≤ 2 ^ 62
   pub lent : t .lent ≤ 2 ^ 62
   pub received : t .received ≤ 2 ^ 62
@@ -132,7 +132,7 @@ pub record Room (t : FinancingTally) : Type 0 where
   pub payable : t .payable ≤ 2 ^ 62
 
 -- a tally whose thousandths fit
-pub record Light (t : FinancingTally) : Type 0 where
+pub record TallyFits (t : FinancingTally) : Type 0 where
   pub assets : 1000 * t .assets ≤ 2 ^ 61
   pub netted : 1000 * nettedIn t ≤ 2 ^ 61
   pub lent : 2000 * t .lent ≤ 2 ^ 61

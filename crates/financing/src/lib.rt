@@ -12,7 +12,7 @@ ghost use denote.Ref.{now};
 ghost use Rattle.rules.specs.Word.{kindOf, word};
 ghost use Rattle.rules.specs.Read.{financingSetTurn};
 ghost use Rattle.records.specs.Readable.{Readable};
-ghost use Rattle.records.specs.Step.{Roomy, itemStep};
+ghost use Rattle.records.specs.Step.{SumsRoomy, itemStep};
 
 mod amounts;
 mod faults;
@@ -22,16 +22,19 @@ mod trades;
 // The set at the head of a part of the book, in the sums: "A part of the lent book starting at the set's head is handed on to the
 // function that weighs the set". No row of it goes by the bands.
 pub fn financing_set(part: &[u32], s: Sums, bands: Bands) -> ItemStep
-    requires { ⌜ Readable 1 (now part) × ((kindOf (word (now part) 0) ≡ 8) × Roomy s) ⌝ }
+    requires { ⌜ Readable 1 (now part) × ((kindOf (word (now part) 0) ≡ 8) × SumsRoomy s) ⌝ }
     ensures { λ r. ⌜ r ≡ itemStep bands s (financingSetTurn (now (part .entry))) ⌝ }
 {
     let head = part[0];
     let fault = financing_set_fault(head);
     if fault != causes::NONE {
-        return ItemStep::Stop(fault, 0);
+        return ItemStep::Refused {
+            number: fault,
+            place: 0,
+        };
     }
     match weigh(part) {
         Weighed::Whole(t, next) => ItemStep::Next(with_set(s, t, head), next),
-        Weighed::Broken(number, place) => ItemStep::Stop(number, place),
+        Weighed::Refused { number, place } => ItemStep::Refused { number, place },
     }
 }

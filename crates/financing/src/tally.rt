@@ -9,8 +9,8 @@ use words::numbers::lesser;
 use words::parts::bit;
 ghost use mathlib.Core.Path.{_≡_};
 ghost use Prim.Native.Nat.{_^_, _≤_};
-ghost use Rattle.records.specs.Step.{Roomy};
-ghost use Rattle.financing.specs.Weighing.{Light, Room, excessIn, nettedIn, noTally, plusSet, settled, tallied, tradeOf};
+ghost use Rattle.records.specs.Step.{SumsRoomy};
+ghost use Rattle.financing.specs.Weighing.{TallyFits, TallyRoomy, excessIn, nettedIn, noTally, plusSet, settled, tallied, tradeOf};
 
 // Gross assets less securities, value lent and value received, what was lent beyond what was received trade by trade; cash netted of
 // the days that are closed, and the day of the trade before with its receivables and payables.
@@ -53,7 +53,7 @@ impl FinancingTally {
         received: u32,
         days: u32,
     ) -> FinancingTally
-        requires { ⌜ Room self ⌝ }
+        requires { ⌜ TallyRoomy self ⌝ }
         ensures { λ r. ⌜ r ≡ tallied self (tradeOf w asset securities receivable payable lent received days) ⌝ }
     {
         self.assets = self.assets + less(amount(asset), amount(securities));
@@ -83,7 +83,7 @@ impl FinancingTally {
 
     // The cash netted of all days, the last one too.
     pub fn netted(self) -> u64
-        requires { ⌜ Light self ⌝ }
+        requires { ⌜ TallyFits self ⌝ }
         ensures { λ r. ⌜ r ≡ nettedIn self ⌝ }
     {
         self.closed + lesser(self.receivable, self.payable)
@@ -100,7 +100,7 @@ impl FinancingTally {
 // The sums with a set more: "12: asset − securities. 13: −cash netted. 14: E* of principal sets. 15: E* of agent sets, plus all value
 // lent with bit 2."
 pub fn with_set(mut s: Sums, t: FinancingTally, w: u32) -> Sums
-    requires { ⌜ Roomy s × Light t ⌝ }
+    requires { ⌜ SumsRoomy s × TallyFits t ⌝ }
     ensures { λ r. ⌜ r ≡ plusSet s t w ⌝ }
 {
     let excess = 1000 * t.excess(bit(w, payloads::FINANCING_NETTING));

@@ -15,12 +15,12 @@ ghost use Prim.Native.Nat.{suc, _+_};
 ghost use Rattle.rules.specs.Read.{financingTradeAt};
 ghost use Rattle.rules.specs.Word.{kindOf, word};
 ghost use Rattle.records.specs.Readable.{Readable};
-ghost use Rattle.financing.specs.Weighing.{Room, noTally, tallied, tradeFaultAt, tradesOf, weighedOf};
+ghost use Rattle.financing.specs.Weighing.{TallyRoomy, noTally, tallied, tradeFaultAt, tradesOf, weighedOf};
 
 // What the trades of a set come to: their tally and the place behind them, or the number and the place of the first fault.
 pub enum Weighed {
     Whole(FinancingTally, usize),
-    Broken(u32, usize),
+    Refused { number: u32, place: usize },
 }
 
 // The day of the tally is that of the trade before, and 0 behind the head.
@@ -34,7 +34,10 @@ pub fn weigh(part: &[u32]) -> Weighed
     while standing(part, at, kinds::FINANCING_TRADE) {
         let fault = trade_fault(part, at, agent, t.day);
         if fault != causes::NONE {
-            return Weighed::Broken(fault, at);
+            return Weighed::Refused {
+                number: fault,
+                place: at,
+            };
         }
         t = with_trade(part, at, t);
         at += lengths::FINANCING_TRADE;
@@ -66,7 +69,7 @@ fn trade_fault(part: &[u32], at: usize, agent: bool, last_days: u32) -> u32
 
 // The tally with the trade at a place, which has no fault.
 fn with_trade(part: &[u32], at: usize, t: FinancingTally) -> FinancingTally
-    requires { ⌜ Readable (at + 8) (now part) × Room t ⌝ }
+    requires { ⌜ Readable (at + 8) (now part) × TallyRoomy t ⌝ }
     ensures { λ r. ⌜ r ≡ tallied t (financingTradeAt (now (part .entry)) at) ⌝ }
 {
     t.add(

@@ -9,37 +9,27 @@ use Rattle.rules.specs.Word.{word}
 use Rattle.rules.specs.Book.{Head}
 use Rattle.rules.specs.Ratio.{tier1Of, verdictOf}
 use Rattle.rules.specs.Rows.{exposureRow, rowsOf}
-use Rattle.template.specs.Sections.{Small}
-use Rattle.reading.specs.declared.Reading.{Reading}
-use Rattle.reading.specs.declared.Reading.the-variants.{Whole, Fault}
-use Rattle.leverage.specs.declared.Admission.{Admission}
-use Rattle.leverage.specs.declared.Admission.the-variants.{Early, Within, Admitted}
+use Rattle.template.specs.Sections.{SumsFit}
+use Rattle.reading.specs.declared.Admission.{Admission}
+use Rattle.reading.specs.declared.Admission.the-variants.{Admitted}
+use Rattle.reading.specs.declared.Admission.the-variants as admission
 use Rattle.leverage.specs.declared.Answer.the-variants.{Refused, Accepted}
-use Rattle.leverage.specs.Answers.{concluded, answerTo, rowsTo, Publishable}
+use Rattle.leverage.specs.Answers.{answerTo, rowsTo, AdmissionFits}
 
 -- a word beyond the book is 0
 pub no-word : (ws : List ℕ) (at : ℕ) → length ws ≤ at → word ws at ≡ 0
 no-word ws at h = List·getD-eq-default ws 0 h
 
-pub concluded-whole : (r : Reading) (sums : Sums) (place : ℕ) → r ≡ Whole sums place → Admitted sums ≡ concluded r
-concluded-whole r sums place e = rw e
-
-pub concluded-fault : (r : Reading) (number place : ℕ) → r ≡ Fault number place → Within number place ≡ concluded r
-concluded-fault r number place e = rw e
-
 module _ (head : Head) (rows : List ℤ) (a : Admission) where
-  pub to-early : (number : ℕ) → a ≡ Early number → (Refused number 0 ≡ answerTo head a) × (rows ≡ rowsTo head a rows)
-  to-early number e = rw e (refl, refl)
-
-  pub to-within : (number place : ℕ) → a ≡ Within number place → (Refused number place ≡ answerTo head a) × (rows ≡ rowsTo head a rows)
-  to-within number place e = rw e (refl, refl)
+  pub to-refused : (number place : ℕ) → a ≡ admission.Refused number place → (Refused number place ≡ answerTo head a) × (rows ≡ rowsTo head a rows)
+  to-refused number place e = rw e (refl, refl)
 
   pub to-admitted : (s : Sums) → a ≡ Admitted s → (v : ℕ) (rows′ : List ℤ) → v ≡ verdictOf (tier1Of (head .gain) (head .loss)) (exposureRow s) → rows′ ≡ rowsOf s (head .gain) (head .loss) ++ drop 22 rows
       → (Accepted v ≡ answerTo head a) × (rows′ ≡ rowsTo head a rows)
   to-admitted s e v rows′ vq wq = rw e (ap Accepted vq, wq)
 
-pub small-admitted : (a : Admission) (s : Sums) → a ≡ Admitted s → Publishable a → Small s
-small-admitted a s e p = rw e at p
+pub fits-admitted : (a : Admission) (s : Sums) → a ≡ Admitted s → AdmissionFits a → SumsFit s
+fits-admitted a s e p = rw e at p
 
 -- the rows and the verdict of an admitted book, from what each call gave
 pub published : (head : Head) (s : Sums) (rows : List ℤ) (gain loss : ℕ) → gain ≡ head .gain → loss ≡ head .loss

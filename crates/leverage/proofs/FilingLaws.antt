@@ -19,11 +19,11 @@ use Rattle.theorems.proofs.Accepted.{accepted-is}
 use Rattle.theorems.proofs.ExposureSum.{exposure-row-is, exposure-is-sum}
 use Rattle.theorems.proofs.ItemBounds.{itemWeight, items-small}
 use Rattle.theorems.proofs.ItemRows.{allRows, rows-at-most, sums-total}
-use Rattle.template.specs.Sections.{Small}
-use Rattle.leverage.specs.declared.Admission.{Admission}
+use Rattle.template.specs.Sections.{SumsFit}
+use Rattle.reading.specs.declared.Admission.{Admission}
 use Rattle.leverage.specs.declared.Answer.{Answer}
 use Rattle.leverage.specs.declared.Answer.the-variants.{Refused}
-use Rattle.leverage.specs.Answers.{admissionOf, answerTo, rowsTo, Publishable, filed}
+use Rattle.leverage.specs.Answers.{admissionOf, answerTo, rowsTo, AdmissionFits, filed}
 use Rattle.leverage.proofs.StageLaws.{head-good}
 
 -- ---- the sums of an accepted book fit the rows
@@ -35,7 +35,7 @@ not-below e up down q = go (decLt up down)
     go (yes h) = let z : _≡_ {A = ℕ} 0 1 = cc (q ∙ sub-neg up down h) in absurd (omega arith)
     go (no h) = omega arith
 
-small : (ws : List ℕ) (rows entries : ℕ) (items : List Placed) (left : List Entry) → outcomeOf ws rows entries ≡ accepted items left → Small (sumsOf (headOf ws .bands) items)
+small : (ws : List ℕ) (rows entries : ℕ) (items : List Placed) (left : List Entry) → outcomeOf ws rows entries ≡ accepted items left → SumsFit (sumsOf (headOf ws .bands) items)
 unfolding sumsOf
 small ws rows entries items left e =
     let a = accepted-is ws rows entries items left e in
@@ -52,14 +52,14 @@ small ws rows entries items left e =
     }
 
 -- what is admitted can be published
-pub publishable : (ws : List ℕ) (rows entries : ℕ) → 22 ≤ rows → (a : Admission) → a ≡ admissionOf (headOf ws .bands) (admission ws entries) → Publishable a
+pub admission-fits : (ws : List ℕ) (rows entries : ℕ) → 22 ≤ rows → (a : Admission) → a ≡ admissionOf (headOf ws .bands) (admission ws entries) → AdmissionFits a
 unfolding outcomeOf
-publishable ws rows entries h a q = rw q (go (admission ws entries) refl)
+admission-fits ws rows entries h a q = rw q (go (admission ws entries) refl)
   where
     whole : (o : Outcome) → admission ws entries ≡ o → outcomeOf ws rows entries ≡ o
     whole o e = simp (le-ltb rows 22 h) e
 
-    go : (o : Outcome) → admission ws entries ≡ o → Publishable (admissionOf (headOf ws .bands) o)
+    go : (o : Outcome) → admission ws entries ≡ o → AdmissionFits (admissionOf (headOf ws .bands) o)
     go (early number) e = tt
     go (refused number place) e = tt
     go (accepted items left) e = small ws rows entries items left (whole (accepted items left) e)

@@ -34,32 +34,23 @@ use denote.Triple.Walked.{says}
 use Rattle.rules.specs.declared.Entry.{Entry}
 use Rattle.rules.specs.Read.{headOf}
 use Rattle.rules.specs.Filing.{admission, registerAfter}
-use Rattle.reading.specs.declared.Reading.{Reading}
-use Rattle.reading.proofs.Reading as TR
-use Rattle.register.proofs.Rows.{KnownCase, told-case, known-case, R, mach-reading, IsReading, reading-makes}
+use Rattle.reading.specs.declared.Admission.{Admission}
+use Rattle.reading.proofs.Admission as TA
+use Rattle.reading.proofs.Admission.Laws as TA′
+use Rattle.register.proofs.Rows.{KnownCase, told-case, known-case, R, mach-admission, IsAdmission, admission-makes}
 use Rattle.register.proofs.Relend.{slice, Claim}
 use Rattle.register.proofs.Lent.{mut-own, shr-own, left, left-shared, left-both, Call, calls-plain, calls-passed, calls-both}
-use Rattle.leverage.specs.declared.Admission.{Admission}
 use Rattle.leverage.specs.declared.Answer.{Answer}
-use Rattle.leverage.specs.Answers.{earlyNumber, concluded, faulty, admissionOf, answerTo, rowsTo, Publishable}
-use Rattle.leverage.proofs.Admission as TA
-use Rattle.leverage.proofs.Admission.Laws as TA′
+use Rattle.leverage.specs.Answers.{earlyNumber, refusedIn, admissionOf, answerTo, rowsTo, AdmissionFits}
 use Rattle.leverage.proofs.Answer as TN
 use Rattle.leverage.proofs.Answer.Laws as TN′
 use Rattle.leverage.proofs.early.early as early′
 use Rattle.leverage.proofs.early.protections_of as protections′
-use Rattle.leverage.proofs.stages.is_fault as is-fault′
-use Rattle.leverage.proofs.stages.conclude as conclude′
+use Rattle.leverage.proofs.stages.is_refused as is-refused′
 use Rattle.leverage.proofs.admit.admit as admit′
 use Rattle.leverage.proofs.report.report as report′
 
 -- ---- the enums
-
-abbrev pub mach-admission : Admission → Val
-mach-admission = LE.val TA.the-type TA′.the-laws
-
-abbrev pub IsAdmission : Admission → Type 0
-IsAdmission = KnownCase TA.the-type TA′.the-laws
 
 abbrev pub mach-answer : Answer → Val
 mach-answer = LE.val TN.the-type TN′.the-laws
@@ -69,17 +60,11 @@ IsAnswer = KnownCase TN.the-type TN′.the-laws
 
 module _ {M : Type 1} (𝓤 : URA M) (H : Heap 𝓤) (A : Atoms 𝓤) where
   -- what each owns is had for nothing
-  pub admission-makes : Makes 𝓤 H A TA.the-row (Is TA.the-row)
-  admission-makes = LE.makes TA.the-type TA′.the-plain 𝓤 H A
-
   pub answer-makes : Makes 𝓤 H A TN.the-row (Is TN.the-row)
   answer-makes = LE.makes TN.the-type TN′.the-plain 𝓤 H A
 
   -- each may be stored
   module _ (W : Given 𝓤 H A) where
-    pub typed-admission : (a : Admission) → IsAdmission a → Holds (hasTy TA′.mir (mach-admission a)) × WT (mach-admission a)
-    typed-admission a g = LE.lawful TA.the-type TA′.the-laws 𝓤 H A W tt .typed a _ g .0
-
     pub typed-answer : (a : Answer) → IsAnswer a → Holds (hasTy TN′.mir (mach-answer a)) × WT (mach-answer a)
     typed-answer a g = LE.lawful TN.the-type TN′.the-laws 𝓤 H A W tt .typed a _ g .0
 
@@ -92,11 +77,8 @@ module _ {M : Type 1} (𝓤 : URA M) (H : Heap 𝓤) (A : Atoms 𝓤) (mem : Mem
   abbrev pub Protections : Contract 𝓤
   Protections = tripleOf 𝓤 H A protections′.signature (protections′.spec 𝓤 H A mem run)
 
-  abbrev pub IsFault : Contract 𝓤
-  IsFault = tripleOf 𝓤 H A is-fault′.signature (is-fault′.spec 𝓤 H A mem run)
-
-  abbrev pub Conclude : Contract 𝓤
-  Conclude = tripleOf 𝓤 H A conclude′.signature (conclude′.spec 𝓤 H A mem run)
+  abbrev pub IsRefused : Contract 𝓤
+  IsRefused = tripleOf 𝓤 H A is-refused′.signature (is-refused′.spec 𝓤 H A mem run)
 
   abbrev pub Admit : Contract 𝓤
   Admit = tripleOf 𝓤 H A admit′.signature (admit′.spec 𝓤 H A mem run)
@@ -107,17 +89,11 @@ module _ {M : Type 1} (𝓤 : URA M) (H : Heap 𝓤) (A : Atoms 𝓤) (mem : Mem
   -- ---- what each binds outside, and that what is handed over is what it asks
 
   module _ (W : Given 𝓤 H A) where
-    abbrev pub to-is-fault : Reading → IsFault .Ghost
-    to-is-fault r = ((tt, tt, tt, (r, tt), (mach-reading r ∷ [], tt)), tt)
+    abbrev pub to-is-refused : Admission → IsRefused .Ghost
+    to-is-refused r = ((tt, tt, tt, (r, tt), (mach-admission r ∷ [], tt)), tt)
 
-    pub is-fault-pre : (r : Reading) → IsReading r → ent 𝓤 (emp 𝓤) (IsFault .pre (to-is-fault r))
-    is-fault-pre r is = qed W [] ∵ nothing ! $ nothing ! $ nothing ! $ owned ! TR.the-row (Is TR.the-row) (reading-makes 𝓤 H A) r _ is $ fjoin ! $ move ! (1 ∷ 0 ∷ []) $ join ! $ join ! $ done !
-
-    abbrev pub to-conclude : Reading → Conclude .Ghost
-    to-conclude r = ((tt, tt, tt, (r, tt), (mach-reading r ∷ [], tt)), tt)
-
-    pub conclude-pre : (r : Reading) → IsReading r → ent 𝓤 (emp 𝓤) (Conclude .pre (to-conclude r))
-    conclude-pre r is = qed W [] ∵ nothing ! $ nothing ! $ nothing ! $ owned ! TR.the-row (Is TR.the-row) (reading-makes 𝓤 H A) r _ is $ fjoin ! $ move ! (1 ∷ 0 ∷ []) $ join ! $ join ! $ done !
+    pub is-refused-pre : (r : Admission) → IsAdmission r → ent 𝓤 (emp 𝓤) (IsRefused .pre (to-is-refused r))
+    is-refused-pre r is = qed W [] ∵ nothing ! $ nothing ! $ nothing ! $ owned ! TA.the-row (Is TA.the-row) (admission-makes 𝓤 H A) r _ is $ fjoin ! $ move ! (1 ∷ 0 ∷ []) $ join ! $ join ! $ done !
 
     -- over the book
     module _ (κ : Lft) (p : Share) (b o : ℕ) (γ : GName) (m : ℕ) (ws : List ℕ) where
@@ -155,7 +131,7 @@ module _ {M : Type 1} (𝓤 : URA M) (H : Heap 𝓤) (A : Atoms 𝓤) (mem : Mem
       abbrev pub to-report : (b₁ o₁ n : ℕ) (rows : List ℤ) → Admission → ℕ → GName → Report .Ghost
       to-report b₁ o₁ n rows a ν δ = (((κ, (ν ∷ [], tt)), (p, (fullShare, tt)), tt, (slice b o γ ws, (slice b₁ o₁ δ rows, (a, tt))), (sliceVal (b, o) m ∷ [], (sliceVal (b₁, o₁) n ∷ [], (mach-admission a ∷ [], tt)))), tt)
 
-      pub report-pre : (b₁ o₁ n : ℕ) (rows : List ℤ) (a : Admission) → IsAdmission a → (22 ≤ length rows) × Publishable a → (ν : ℕ) (δ : GName)
+      pub report-pre : (b₁ o₁ n : ℕ) (rows : List ℤ) (a : Admission) → IsAdmission a → (22 ≤ length rows) × AdmissionFits a → (ν : ℕ) (δ : GName)
           → ent 𝓤 (sep 𝓤 (A .lft (ν ∷ []) fullShare) (sep 𝓤 (sem 𝓤 H A (mut-own i64 (named 1) (ν ∷ []) δ b₁ o₁ n rows)) (sep 𝓤 (sem 𝓤 H A (shr-own u32 (named 0) κ γ b o m ws)) (A .lft κ p)))) (Report .pre (to-report b₁ o₁ n rows a ν δ))
       report-pre b₁ o₁ n rows a is asked ν δ =
           qed W (‵ (flft (ν ∷ []) fullShare) ∷ ‵ (mut-own i64 (named 1) (ν ∷ []) δ b₁ o₁ n rows) ∷ (‵ (shr-own u32 (named 0) κ γ b o m ws) ⊛ ‵ (flft κ p)) ∷ []) ∵
@@ -165,21 +141,13 @@ module _ {M : Type 1} (𝓤 : URA M) (H : Heap 𝓤) (A : Atoms 𝓤) (mem : Mem
 module _ {M : Type 1} {𝓤 : URA M} {H : Heap 𝓤} {A : Atoms 𝓤} {K : Type 0} {W : Given 𝓤 H A} {Γ : List (Item 𝓤)} {E : Env 𝓤 H} {xs : List Operand} {G : Goal 𝓤 H} {after : Val → Goal 𝓤 H} (t : K) (mem : Memory → SProp 𝓤) (run : Routine → Fun 𝓤) where
   -- ---- over plain values
 
-  pub calls-is-fault : Call K W E xs (IsFault 𝓤 H A mem run) G after → (r : Reading) → IsReading r
-      → Opds K W (raw (IsFault 𝓤 H A mem run .pre (to-is-fault 𝓤 H A mem run W r)) ∷ Γ) E xs (mach-reading r ∷ [])
-      → ((y : Bool) → y ≡ faulty r → Seq K W Γ (after (vbool y))) → Seq K W Γ G
-  calls-is-fault cl r is os k =
-      calls-plain {H = H} {A = A} {W = W} t (IsFault 𝓤 H A mem run) cl (to-is-fault 𝓤 H A mem run W r) (is-fault-pre 𝓤 H A mem run W r is)
-      (λ y w. Is bool y (w ∷ []) × (y ≡ faulty r)) (λ w. left 𝓤 H A W bool (Lasts is-fault′.ended tt (r, tt)) (λ _. fsep ftrue ftrue) (λ y. y ≡ faulty r) w)
+  pub calls-is-refused : Call K W E xs (IsRefused 𝓤 H A mem run) G after → (r : Admission) → IsAdmission r
+      → Opds K W (raw (IsRefused 𝓤 H A mem run .pre (to-is-refused 𝓤 H A mem run W r)) ∷ Γ) E xs (mach-admission r ∷ [])
+      → ((y : Bool) → y ≡ refusedIn r → Seq K W Γ (after (vbool y))) → Seq K W Γ G
+  calls-is-refused cl r is os k =
+      calls-plain {H = H} {A = A} {W = W} t (IsRefused 𝓤 H A mem run) cl (to-is-refused 𝓤 H A mem run W r) (is-refused-pre 𝓤 H A mem run W r is)
+      (λ y w. Is bool y (w ∷ []) × (y ≡ refusedIn r)) (λ w. left 𝓤 H A W bool (Lasts is-refused′.ended tt (r, tt)) (λ _. fsep ftrue ftrue) (λ y. y ≡ refusedIn r) w)
       os (λ w y is. regoal t after (ap only (is .0)) refl $ k y (is .1))
-
-  pub calls-conclude : Call K W E xs (Conclude 𝓤 H A mem run) G after → (r : Reading) → IsReading r
-      → Opds K W (raw (Conclude 𝓤 H A mem run .pre (to-conclude 𝓤 H A mem run W r)) ∷ Γ) E xs (mach-reading r ∷ [])
-      → ((a : Admission) → IsAdmission a → a ≡ concluded r → Seq K W Γ (after (mach-admission a))) → Seq K W Γ G
-  calls-conclude cl r is os k =
-      calls-plain {H = H} {A = A} {W = W} t (Conclude 𝓤 H A mem run) cl (to-conclude 𝓤 H A mem run W r) (conclude-pre 𝓤 H A mem run W r is)
-      (λ a w. Is TA.the-row a (w ∷ []) × (a ≡ concluded r)) (λ w. left 𝓤 H A W TA.the-row (Lasts conclude′.ended tt (r, tt)) (λ _. fsep ftrue ftrue) (λ a. a ≡ concluded r) w)
-      os (λ w a is. regoal t after (told-case TA.the-type TA′.the-laws a w (is .0)) refl $ k a (known-case TA.the-type TA′.the-laws a w (is .0)) (is .1))
 
   -- ---- over the book
 
@@ -219,7 +187,7 @@ module _ {M : Type 1} {𝓤 : URA M} {H : Heap 𝓤} {A : Atoms 𝓤} {K : Type 
       os (λ w a zs l is. regoal t after (told-case TA.the-type TA′.the-laws a w (is .0)) refl $ k a zs (known-case TA.the-type TA′.the-laws a w (is .0)) l (is .1 .0) (is .1 .1))
 
   pub calls-report : Call K W E xs (Report 𝓤 H A mem run) G after → (ℓ : Lifetime) {κ : Lft} {p : Share} {γ : GName} {b o n : ℕ} (rows : List ℤ) → length rows ≡ n → Room i64 n
-      → (ℓ₀ : Lifetime) {κ₀ : Lft} {p₀ : Share} {γ₀ : GName} {b₀ o₀ m : ℕ} (ws : List ℕ) (a : Admission) → IsAdmission a → (22 ≤ length rows) × Publishable a
+      → (ℓ₀ : Lifetime) {κ₀ : Lft} {p₀ : Share} {γ₀ : GName} {b₀ o₀ m : ℕ} (ws : List ℕ) (a : Admission) → IsAdmission a → (22 ≤ length rows) × AdmissionFits a
       → ((ν : ℕ) (δ : GName) → Opds K W (raw (Report 𝓤 H A mem run .pre (to-report 𝓤 H A mem run W κ₀ p₀ b₀ o₀ γ₀ m ws b o n rows a ν δ)) ∷ ‵ (Claim i64 κ (ν ∷ []) p γ b o δ rows) ∷ ‵ (shr-own u32 ℓ₀ κ₀ γ₀ b₀ o₀ m ws) ∷ Γ) E xs (sliceVal (b₀, o₀) m ∷ sliceVal (b, o) n ∷ mach-admission a ∷ []))
       → ((r : Answer) (zs : List ℤ) → IsAnswer r → length zs ≡ n → r ≡ answerTo (headOf ws) a → zs ≡ rowsTo (headOf ws) a rows
       → Seq K W (‵ (mut-own i64 ℓ κ γ b o n zs) ∷ ‵ (flft κ p) ∷ ‵ (shr-own u32 ℓ₀ κ₀ γ₀ b₀ o₀ m ws) ∷ ‵ (flft κ₀ p₀) ∷ Γ) (after (mach-answer r)))

@@ -20,14 +20,14 @@ use Rattle.rules.specs.Filing.{Outcome, early, refused, accepted, judged, recor
 use Rattle.rules.proofs.Lists.{or-left, or-right}
 use Rattle.theorems.proofs.Settling.{settle-one, settle-none}
 use Rattle.records.specs.Readable.{Readable}
-use Rattle.reading.specs.declared.Reading.{Reading}
-use Rattle.reading.specs.declared.Reading.the-variants.{Whole, Fault}
+use Rattle.reading.specs.declared.Admission.{Admission}
+use Rattle.reading.specs.declared.Admission.the-variants.{Admitted, Refused}
 use Rattle.reading.specs.Steps.{readingOf}
 use Rattle.reading.specs.Ahead.{Ahead, recordsAhead}
 use Rattle.register.specs.Loading.{loadedFrom}
 use Rattle.register.specs.Draws.{firstFault, leftBy, readingAfter, leftAfter}
 use Rattle.register.proofs.Loaded.{loaded-length}
-use Rattle.leverage.specs.Answers.{earlyNumber, concluded, faulty, admissionOf}
+use Rattle.leverage.specs.Answers.{earlyNumber, refusedIn, admissionOf}
 use Rattle.leverage.proofs.Loads.{records-are}
 
 -- ---- before the records
@@ -91,41 +91,41 @@ left-settled es (d ∷ ds) left e = let s = settle-one es d ds left e in simp (s
 -- ---- the first of the two faults: that of the reading r and that of the covers s
 
 module _ (head : Head) (r : Run Placed) where
-  abbrev comes : Settled → Reading
+  abbrev comes : Settled → Admission
   comes s = firstFault (readingOf (head .bands) r) s
 
-  judged-is : (s : Settled) → concluded (comes s) ≡ admissionOf (head .bands) (judged r s)
+  judged-is : (s : Settled) → comes s ≡ admissionOf (head .bands) (judged r s)
   unfolding readingOf
   judged-is (unfit number place) = refl
   judged-is (settled left) = go (eqb (r .number) 0)
     where
-      go : (x : Bool) → concluded (cond x (Whole (sumsOf (head .bands) (r .records)) (r .place)) (Fault (r .number) (r .place)))
+      go : (x : Bool) → (cond x (Admitted (sumsOf (head .bands) (r .records))) (Refused (r .number) (r .place)))
           ≡ admissionOf (head .bands) (cond x (accepted (r .records) left) (refused (r .number) (r .place)))
       go true = refl
       go false = refl
 
   -- the register with `es` for its first entries; and after the clearing
   module _ (es before : List Entry) where
-    kept : (s : Settled) → ((left : List Entry) → s ≡ settled left → es ≡ left) → faulty (comes s) ≡ false → es ++ drop (head .protections) before ≡ registerAfter head (judged r s) before
+    kept : (s : Settled) → ((left : List Entry) → s ≡ settled left → es ≡ left) → refusedIn (comes s) ≡ false → es ++ drop (head .protections) before ≡ registerAfter head (judged r s) before
     unfolding readingOf
     kept (unfit number place) q e = absurd (true≢false e)
     kept (settled left) q e = rw (q left refl) (go (eqb (r .number) 0) e)
       where
-        go : (x : Bool) → faulty (cond x (Whole (sumsOf (head .bands) (r .records)) (r .place)) (Fault (r .number) (r .place))) ≡ false
+        go : (x : Bool) → refusedIn (cond x (Admitted (sumsOf (head .bands) (r .records))) (Refused (r .number) (r .place))) ≡ false
             → left ++ drop (head .protections) before ≡ registerAfter head (cond x (accepted (r .records) left) (refused (r .number) (r .place))) before
         go true e = refl
         go false e = absurd (true≢false e)
 
-    cleared : length es ≡ head .protections → (s : Settled) → faulty (comes s) ≡ true
+    cleared : length es ≡ head .protections → (s : Settled) → refusedIn (comes s) ≡ true
         → replicate (head .protections) blank ++ drop (head .protections) (es ++ drop (head .protections) before) ≡ registerAfter head (judged r s) before
     unfolding readingOf
     cleared len s e = ap (λ (l : List Entry). replicate (head .protections) blank ++ l) (drop-at es (drop (head .protections) before) (head .protections) len) ∙ by-fault s e
       where
-        by-fault : (s : Settled) → faulty (comes s) ≡ true → replicate (head .protections) blank ++ drop (head .protections) before ≡ registerAfter head (judged r s) before
+        by-fault : (s : Settled) → refusedIn (comes s) ≡ true → replicate (head .protections) blank ++ drop (head .protections) before ≡ registerAfter head (judged r s) before
         by-fault (unfit number place) e = refl
         by-fault (settled left) e = go (eqb (r .number) 0) e
           where
-            go : (x : Bool) → faulty (cond x (Whole (sumsOf (head .bands) (r .records)) (r .place)) (Fault (r .number) (r .place))) ≡ true
+            go : (x : Bool) → refusedIn (cond x (Admitted (sumsOf (head .bands) (r .records))) (Refused (r .number) (r .place))) ≡ true
                 → replicate (head .protections) blank ++ drop (head .protections) before ≡ registerAfter head (cond x (accepted (r .records) left) (refused (r .number) (r .place))) before
             go true e = absurd (true≢false (sym e))
             go false e = refl
@@ -157,9 +157,9 @@ module _ (ws : List ℕ) (entries : ℕ) (k : Looked ws entries) where
   unfolding leftAfter
   the-entries = ap (λ (a : Ahead). leftBy (loadedFrom ws b 0) (a .draws)) (records-ahead ws)
 
-  module _ (r : Reading) (rq : r ≡ readingAfter ws b) where
-    pub admitted : concluded r ≡ admissionOf (headOf ws .bands) (admission ws entries)
-    admitted = ap concluded (rq ∙ the-reading) ∙ judged-is (headOf ws) (itemsOf ws) s ∙ ap (admissionOf (headOf ws .bands)) (sym the-outcome)
+  module _ (r : Admission) (rq : r ≡ readingAfter ws b) where
+    pub admitted : r ≡ admissionOf (headOf ws .bands) (admission ws entries)
+    admitted = rq ∙ the-reading ∙ judged-is (headOf ws) (itemsOf ws) s ∙ ap (admissionOf (headOf ws .bands)) (sym the-outcome)
 
     module _ (before after : List Entry) (aq : after ≡ leftAfter ws b ++ drop b before) where
       after-is : after ≡ leftBy (loadedFrom ws b 0) ds ++ drop b before
@@ -168,11 +168,11 @@ module _ (ws : List ℕ) (entries : ℕ) (k : Looked ws entries) where
       to-outcome : registerAfter (headOf ws) (judged (itemsOf ws) s) before ≡ registerAfter (headOf ws) (admission ws entries) before
       to-outcome = ap (λ (o : Outcome). registerAfter (headOf ws) o before) (sym the-outcome)
 
-      pub register-left : faulty r ≡ false → after ≡ registerAfter (headOf ws) (admission ws entries) before
+      pub register-left : refusedIn r ≡ false → after ≡ registerAfter (headOf ws) (admission ws entries) before
       register-left e =
-          after-is ∙ kept (headOf ws) (itemsOf ws) (leftBy (loadedFrom ws b 0) ds) before s (left-settled (loadedFrom ws b 0) ds) (sym (ap faulty (rq ∙ the-reading)) ∙ e) ∙ to-outcome
+          after-is ∙ kept (headOf ws) (itemsOf ws) (leftBy (loadedFrom ws b 0) ds) before s (left-settled (loadedFrom ws b 0) ds) (sym (ap refusedIn (rq ∙ the-reading)) ∙ e) ∙ to-outcome
 
-      pub register-cleared : faulty r ≡ true → replicate b blank ++ drop b after ≡ registerAfter (headOf ws) (admission ws entries) before
+      pub register-cleared : refusedIn r ≡ true → replicate b blank ++ drop b after ≡ registerAfter (headOf ws) (admission ws entries) before
       register-cleared e =
           ap (λ (l : List Entry). replicate b blank ++ drop b l) after-is
-          ∙ cleared (headOf ws) (itemsOf ws) (leftBy (loadedFrom ws b 0) ds) before (left-length (loadedFrom ws b 0) ds ∙ loaded-length ws b 0) s (sym (ap faulty (rq ∙ the-reading)) ∙ e) ∙ to-outcome
+          ∙ cleared (headOf ws) (itemsOf ws) (leftBy (loadedFrom ws b 0) ds) before (left-length (loadedFrom ws b 0) ds ∙ loaded-length ws b 0) s (sym (ap refusedIn (rq ∙ the-reading)) ∙ e) ∙ to-outcome

@@ -13,11 +13,10 @@ use Rattle.rules.specs.Read.{headFaulty, headOf}
 use Rattle.rules.specs.Ratio.{tier1Of, verdictOf}
 use Rattle.rules.specs.Rows.{sumsOf, exposureRow, rowsOf}
 use Rattle.rules.specs.Filing.{Outcome, early, refused, accepted, Filing}
-use Rattle.reading.specs.declared.Reading.{Reading}
-use Rattle.reading.specs.declared.Reading.the-variants.{Whole, Fault}
-use Rattle.template.specs.Sections.{Small}
-use Rattle.leverage.specs.declared.Admission.{Admission}
-use Rattle.leverage.specs.declared.Admission.the-variants.{Early, Within, Admitted}
+use Rattle.reading.specs.declared.Admission.{Admission}
+use Rattle.reading.specs.declared.Admission.the-variants.{Admitted}
+use Rattle.reading.specs.declared.Admission.the-variants as admission
+use Rattle.template.specs.Sections.{SumsFit}
 use Rattle.leverage.specs.declared.Answer.{Answer}
 use Rattle.leverage.specs.declared.Answer.the-variants.{Refused, Accepted}
 
@@ -45,37 +44,29 @@ earlyNumber ws entries =
     (cond (ltb entries (headOf ws .protections)) 4
     0))
 
--- what the reading comes to
-abbrev pub concluded : Reading → Admission
-concluded (Whole sums place) = Admitted sums
-concluded (Fault number place) = Within number place
-
-abbrev pub faulty : Reading → Bool
-faulty (Whole sums place) = false
-faulty (Fault number place) = true
+abbrev pub refusedIn : Admission → Bool
+refusedIn (Admitted sums) = false
+refusedIn (admission.Refused number place) = true
 
 -- an outcome as the code has it
 abbrev pub admissionOf : Bands → Outcome → Admission
-admissionOf bands (early number) = Early number
-admissionOf bands (refused number place) = Within number place
+admissionOf bands (early number) = admission.Refused number 0
+admissionOf bands (refused number place) = admission.Refused number place
 admissionOf bands (accepted items left) = Admitted (sumsOf bands items)
 
 -- what is answered of it, and the rows
 abbrev pub answerTo : Head → Admission → Answer
-answerTo head (Early number) = Refused number 0
-answerTo head (Within number place) = Refused number place
+answerTo head (admission.Refused number place) = Refused number place
 answerTo head (Admitted s) = Accepted (verdictOf (tier1Of (head .gain) (head .loss)) (exposureRow s))
 
 abbrev pub rowsTo : Head → Admission → List ℤ → List ℤ
-rowsTo head (Early number) rows = rows
-rowsTo head (Within number place) rows = rows
+rowsTo head (admission.Refused number place) rows = rows
 rowsTo head (Admitted s) rows = rowsOf s (head .gain) (head .loss) ++ drop 22 rows
 
 -- sums that the rows can hold
-abbrev pub Publishable : Admission → Type 0
-Publishable (Early number) = Unit {0}
-Publishable (Within number place) = Unit {0}
-Publishable (Admitted s) = Small s
+abbrev pub AdmissionFits : Admission → Type 0
+AdmissionFits (admission.Refused number place) = Unit {0}
+AdmissionFits (Admitted s) = SumsFit s
 
 -- ---- the filing, as the code has it: its answer, and the rows and the register at exit
 

@@ -1,9 +1,8 @@
 // All of a filing but the rows: the reading, and the settling in the lent register.
-use crate::Admission;
 use crate::early::early;
 use crate::early::protections_of;
-use crate::stages::conclude;
-use crate::stages::is_fault;
+use crate::stages::is_refused;
+use reading::Admission;
 use register::clear;
 use register::settle;
 use rules::Entry;
@@ -21,13 +20,13 @@ pub fn admit(book: &[u32], register: &mut [Entry]) -> Admission
 {
     let number = early(book, register.len());
     if number != causes::NONE {
-        return Admission::Early(number);
+        return Admission::Refused { number, place: 0 };
     }
     let b = protections_of(book);
-    let r = settle(book, register, b);
-    if is_fault(r) {
+    let a = settle(book, register, b);
+    if is_refused(a) {
         clear(register, b);
-        return conclude(r);
+        return a;
     }
-    conclude(r)
+    a
 }

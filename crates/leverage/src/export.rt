@@ -15,7 +15,7 @@ fn pack(a: Answer) -> u64
     ensures { λ r. ⌜ r ≡ packedAnswer a ⌝ }
 {
     match a {
-        Answer::Refused(number, place) => number as u64
+        Answer::Refused { number, place } => number as u64
             + REFUSED
             + 65536 * (place as u64 % 4294967296),
         Answer::Accepted(verdict) => 256 * (verdict as u64),

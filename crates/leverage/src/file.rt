@@ -15,7 +15,10 @@ pub fn file(book: &[u32], rows: &mut [i64], register: &mut [Entry]) -> Answer
     ensures { λ r. ⌜ filed r (now (rows .exit)) (now (register .exit)) ≡ filing (now (book .entry)) (now (rows .entry)) (now (register .entry)) ⌝ }
 {
     if rows.len() < limits::ROWS {
-        return Answer::Refused(causes::ROWS_SHORT, 0);
+        return Answer::Refused {
+            number: causes::ROWS_SHORT,
+            place: 0,
+        };
     }
     let a = admit(book, register);
     report(book, rows, a)

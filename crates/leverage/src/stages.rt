@@ -1,24 +1,17 @@
-// What the reading of a book comes to.
-use crate::Admission;
-use reading::Reading;
+// Whether a book was refused.
+use reading::Admission;
 ghost use mathlib.Core.Path.{_≡_};
-ghost use Rattle.leverage.specs.Answers.{concluded, faulty};
-
-pub fn conclude(r: Reading) -> Admission
-    ensures { λ a. ⌜ a ≡ concluded r ⌝ }
-{
-    match r {
-        Reading::Whole(sums, _) => Admission::Admitted(sums),
-        Reading::Fault(number, place) => Admission::Within(number, place),
-    }
-}
+ghost use Rattle.leverage.specs.Answers.{refusedIn};
 
 // "From 5 on the first b entries become all zero".
-pub fn is_fault(r: Reading) -> bool
-    ensures { λ b. ⌜ b ≡ faulty r ⌝ }
+pub fn is_refused(a: Admission) -> bool
+    ensures { λ b. ⌜ b ≡ refusedIn a ⌝ }
 {
-    match r {
-        Reading::Whole(_, _) => false,
-        Reading::Fault(_, _) => true,
+    match a {
+        Admission::Admitted(_) => false,
+        Admission::Refused {
+            number: _,
+            place: _,
+        } => true,
     }
 }

@@ -50,7 +50,7 @@ fn main() {
     gather(&bytes, &mut words, n / 4);
     let mut rows = [0i64; limits::ROWS];
     match file_alone(&words[..n / 4], &mut rows) {
-        Answer::Refused(number, place) => print_refused(number, place),
+        Answer::Refused { number, place } => print_refused(number, place),
         Answer::Accepted(verdict) => {
             print_rows(rows);
             print_verdict(verdict);

@@ -17,7 +17,7 @@ fn print_three(number: u32, place: usize, verdict: u32) {
 // "number 0, place 0 and the verdict (3 on refusal)"
 fn print_answer(a: Answer) {
     match a {
-        Answer::Refused(number, place) => print_three(number, place, verdicts::REFUSED),
+        Answer::Refused { number, place } => print_three(number, place, verdicts::REFUSED),
         Answer::Accepted(verdict) => print_three(causes::NONE, 0, verdict),
     }
 }

@@ -16,15 +16,15 @@ use Rattle.rules.proofs.Runs.{FineTurn, run-on}
 use Rattle.theorems.proofs.MemberBounds.{perWord}
 use Rattle.theorems.proofs.ItemBounds.{placedWeight, fine-item-turn}
 use Rattle.theorems.proofs.ItemRows.{rows-at-most}
-use Rattle.records.specs.Step.{plusItem, Roomy}
-use Rattle.reading.specs.declared.Reading.the-variants.{Whole, Fault}
-use Rattle.reading.specs.Steps.{allSums, Fair}
+use Rattle.records.specs.Step.{plusItem, SumsRoomy}
+use Rattle.reading.specs.declared.Admission.the-variants.{Admitted, Refused}
+use Rattle.reading.specs.Steps.{allSums, SumsUpTo}
 use Rattle.reading.specs.Ahead.{endsAt, after, itemsAhead, fromItem, Onward}
 
 -- the sums of a place leave room for an item
-pub roomy : {ws : List ℕ} {s : Sums} {at : ℕ} → Fair ws s at → Roomy s
+pub sums-roomy : {ws : List ℕ} {s : Sums} {at : ℕ} → SumsUpTo ws s at → SumsRoomy s
 unfolding allSums
-roomy f =
+sums-roomy f =
     let w = f .readable .within in
     let h = f .readable .short in
     let l = f .small in
@@ -59,18 +59,18 @@ module _ (bands : Bands) (ws : List ℕ) (s : Sums) (at : ℕ) (w : at ≤ lengt
       ∙ ap (λ (x : Turn Placed). itemsAhead bands s (thenRun x at (runFrom (itemTurn ws) (suc (length ws))))) e
 
   -- the end word
-  pub ahead-over : itemTurn ws at ≡ over → fromItem bands ws s at ≡ endsAt (Whole s at)
+  pub ahead-over : itemTurn ws at ≡ over → fromItem bands ws s at ≡ endsAt (Admitted s)
   unfolding drawsOver
   ahead-over e = by-turn over e ∙ simp add-zero
 
   -- a fault
-  pub ahead-bad : (number place : ℕ) → (number ≡ 0 → ⊥) → itemTurn ws at ≡ bad number place → fromItem bands ws s at ≡ endsAt (Fault number place)
+  pub ahead-bad : (number place : ℕ) → (number ≡ 0 → ⊥) → itemTurn ws at ≡ bad number place → fromItem bands ws s at ≡ endsAt (Refused number place)
   unfolding drawsOver
   ahead-bad number place n e = by-turn (bad number place) e ∙ simp (ne-eqb number 0 n)
 
   -- a fault inside an item, behind some of its draws
   pub ahead-broken : (p : Placed) (number place : ℕ) → itemTurn ws at ≡ some p (suc number) place
-      → fromItem bands ws s at ≡ after (drawsIn (p .begin) (p .item)) (endsAt (Fault (suc number) place))
+      → fromItem bands ws s at ≡ after (drawsIn (p .begin) (p .item)) (endsAt (Refused (suc number) place))
   unfolding drawsOver
   ahead-broken p number place e = by-turn (some p (suc number) place) e ∙ simp (ne-eqb (suc number) 0 (λ z. omega arith))
 
@@ -80,7 +80,7 @@ module _ (bands : Bands) (ws : List ℕ) (s : Sums) (at : ℕ) (w : at ≤ lengt
   ahead-some p next e = by-turn (some p 0 next) e ∙ with-one bands s p (runFrom (itemTurn ws) (suc (length ws)) next)
 
 -- an item without draws
-pub onward : (bands : Bands) (ws : List ℕ) (s : Sums) (at : ℕ) → Fair ws s at → (p : Placed) (next : ℕ) → itemTurn ws at ≡ some p 0 next → drawsIn (p .begin) (p .item) ≡ []
+pub onward : (bands : Bands) (ws : List ℕ) (s : Sums) (at : ℕ) → SumsUpTo ws s at → (p : Placed) (next : ℕ) → itemTurn ws at ≡ some p 0 next → drawsIn (p .begin) (p .item) ≡ []
     → Onward bands ws s at (plusItem bands s (p .item)) next
 unfolding allSums
 onward bands ws s at f p next e d =
@@ -89,6 +89,6 @@ onward bands ws s at f p next e d =
     let small = f .small in
     record {
       same = rw d at (ahead-some bands ws s at w p next e);
-      fair = record { readable = record { within = fine .1; short = f .readable .short }; small = omega (arith, fine .2, rows-at-most bands (p .item)) };
+      sums-up-to = record { readable = record { within = fine .1; short = f .readable .short }; small = omega (arith, fine .2, rows-at-most bands (p .item)) };
       further = fine .0;
     }

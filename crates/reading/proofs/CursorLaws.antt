@@ -19,17 +19,19 @@ use Rattle.rules.proofs.Runs.{fine-run}
 use Rattle.theorems.proofs.MemberBounds.{perWord}
 use Rattle.theorems.proofs.ItemBounds.{nothing, fine-protection}
 use Rattle.derivatives.specs.declared.set.OpenSet.{OpenSet}
-use Rattle.derivatives.specs.Ahead.{openedSet, SoundSet}
-use Rattle.reading.specs.declared.Reading.{Reading}
-use Rattle.reading.specs.declared.Reading.the-variants.{Whole, Fault}
+use Rattle.derivatives.specs.Ahead.{newSet, SoundSet}
+use Rattle.reading.specs.declared.Admission.{Admission}
+use Rattle.reading.specs.declared.Admission.the-variants.{Admitted, Refused}
 use Rattle.reading.specs.declared.cursor.Cursor.{Cursor}
 use Rattle.reading.specs.declared.items.ItemAnswer.{ItemAnswer}
-use Rattle.reading.specs.declared.items.ItemAnswer.the-variants.{More, Set, End, Halt}
+use Rattle.reading.specs.declared.items.ItemAnswer.the-variants.{More, Set, End}
+use Rattle.reading.specs.declared.items.ItemAnswer.the-variants as item
 use Rattle.reading.specs.declared.protections.Protections.{Protections}
-use Rattle.reading.specs.declared.protections.Protections.the-variants.{Upto, Wrong}
+use Rattle.reading.specs.declared.protections.Protections.the-variants.{Upto}
+use Rattle.reading.specs.declared.protections.Protections.the-variants as protections
 use Rattle.reading.specs.declared.steps.Step.{Step}
 use Rattle.reading.specs.declared.steps.Step.the-variants.{On, Cover, Ended}
-use Rattle.reading.specs.Steps.{placeOf, readingOf, allSums, Fair}
+use Rattle.reading.specs.Steps.{placeOf, readingOf, allSums, SumsUpTo}
 use Rattle.reading.specs.Ahead.{endsAt, after, fromItem, fromSet, recordsAhead, ahead, noSums, Sound, left, answerAhead, SoundAnswer, stepAhead, SoundStep}
 
 -- ---- where it stands
@@ -41,11 +43,11 @@ abbrev pub setCursor : ℕ → Sums → OpenSet → Cursor
 setCursor at s o = record { begun = true; inside = true; at = at; sums = s; set = o }
 
 module _ {ws : List ℕ} {c : Cursor} (so : Sound ws c) where
-  pub sound-item : {at : ℕ} {s : Sums} (o : OpenSet) → Fair ws s at → Sound ws (itemCursor at s o)
-  sound-item o f = record { readable = so .readable; fair = λ b. f; set = λ b i. let z : _≡_ {A = ℕ} 0 1 = cc in absurd (omega arith) }
+  pub sound-item : {at : ℕ} {s : Sums} (o : OpenSet) → SumsUpTo ws s at → Sound ws (itemCursor at s o)
+  sound-item o f = record { readable = so .readable; sums-up-to = λ b. f; set = λ b i. let z : _≡_ {A = ℕ} 0 1 = cc in absurd (omega arith) }
 
-  pub sound-set : {at : ℕ} {s : Sums} {o : OpenSet} → Fair ws s at → SoundSet (drop at ws) at o → Sound ws (setCursor at s o)
-  sound-set f t = record { readable = so .readable; fair = λ b. f; set = λ b i. t }
+  pub sound-set : {at : ℕ} {s : Sums} {o : OpenSet} → SumsUpTo ws s at → SoundSet (drop at ws) at o → Sound ws (setCursor at s o)
+  sound-set f t = record { readable = so .readable; sums-up-to = λ b. f; set = λ b i. t }
 
 module _ (ws : List ℕ) (c : Cursor) where
   pub ahead-first : c .begun ≡ false → ahead ws c ≡ recordsAhead ws
@@ -83,20 +85,20 @@ module _ {ws : List ℕ} {c : Cursor} (so : Sound ws c) (b : c .begun ≡ true) 
   pub step-more : (sums : Sums) (next : ℕ) → r ≡ More sums next → (o : OpenSet) → Right ws c (On (itemCursor next sums o))
   unfolding ahead
   step-more sums next e o =
-      let f : Fair ws sums next × (c .at < next) = rw e at (q .1) in
+      let f : SumsUpTo ws sums next × (c .at < next) = rw e at (q .1) in
       (rw e at told, (sound-item so o (f .0), omega (arith, left-item ws c b i, f .0 .readable .within, f .1)))
 
-  pub step-set : r ≡ Set → (o : OpenSet) → o ≡ openedSet → Right ws c (On (setCursor (c .at) (c .sums) o))
+  pub step-set : r ≡ Set → (o : OpenSet) → o ≡ newSet → Right ws c (On (setCursor (c .at) (c .sums) o))
   unfolding ahead
   step-set e o oq =
-      let t : SoundSet (drop (c .at) ws) (c .at) openedSet = rw e at (q .1) in
-      rw oq (rw e at told, (sound-set so (so .fair b) t, omega (arith, left-item ws c b i)))
+      let t : SoundSet (drop (c .at) ws) (c .at) newSet = rw e at (q .1) in
+      rw oq (rw e at told, (sound-set so (so .sums-up-to b) t, omega (arith, left-item ws c b i)))
 
-  pub step-end : r ≡ End → Right ws c (Ended (Whole (c .sums) (c .at)))
+  pub step-end : r ≡ End → Right ws c (Ended (Admitted (c .sums)))
   step-end e = (rw e at told, tt)
 
-  pub step-halt : (number place : ℕ) → r ≡ Halt number place → Right ws c (Ended (Fault number place))
-  step-halt number place e = (rw e at told, tt)
+  pub step-refused : (number place : ℕ) → r ≡ item.Refused number place → Right ws c (Ended (Refused number place))
+  step-refused number place e = (rw e at told, tt)
 
 -- ---- past the protections
 
@@ -110,12 +112,12 @@ module _ {ws : List ℕ} {c : Cursor} (so : Sound ws c) (b : c .begun ≡ false)
   unfolding protectionsOf headOf
   whole = rw nq at q
 
-  pub step-wrong : (number place : ℕ) → r ≡ Wrong number place → Right ws c (Ended (Fault number place))
+  pub step-faulty : (number place : ℕ) → r ≡ protections.Refused number place → Right ws c (Ended (Refused number place))
   unfolding placeOf recordsAhead readingOf itemsOf drawsOver
-  step-wrong number place e = go (eqb (protectionsOf ws .number) 0) refl (sym whole ∙ e)
+  step-faulty number place e = go (eqb (protectionsOf ws .number) 0) refl (sym whole ∙ e)
     where
-      go : (t : Bool) → eqb (protectionsOf ws .number) 0 ≡ t → cond t (Upto (protectionsOf ws .place)) (Wrong (protectionsOf ws .number) (protectionsOf ws .place)) ≡ Wrong number place
-          → Right ws c (Ended (Fault number place))
+      go : (t : Bool) → eqb (protectionsOf ws .number) 0 ≡ t → cond t (Upto (protectionsOf ws .place)) (protections.Refused (protectionsOf ws .number) (protectionsOf ws .place)) ≡ protections.Refused number place
+          → Right ws c (Ended (Refused number place))
       go true h w = let z : _≡_ {A = ℕ} 0 1 = cc in absurd (omega arith)
       go false h w =
           let x : protectionsOf ws .number ≡ number = cc in
@@ -126,7 +128,7 @@ module _ {ws : List ℕ} {c : Cursor} (so : Sound ws c) (b : c .begun ≡ false)
   unfolding placeOf recordsAhead readingOf itemsOf ahead fromItem sumsOf allSums
   step-upto at e s sq o = rw sq (go (eqb (protectionsOf ws .number) 0) refl (sym whole ∙ e))
     where
-      go : (t : Bool) → eqb (protectionsOf ws .number) 0 ≡ t → cond t (Upto (protectionsOf ws .place)) (Wrong (protectionsOf ws .number) (protectionsOf ws .place)) ≡ Upto at
+      go : (t : Bool) → eqb (protectionsOf ws .number) 0 ≡ t → cond t (Upto (protectionsOf ws .place)) (protections.Refused (protectionsOf ws .number) (protectionsOf ws .place)) ≡ Upto at
           → Right ws c (On (itemCursor at noSums o))
       go true h w =
           let y : protectionsOf ws .place ≡ at = cc in
@@ -152,7 +154,7 @@ module _ {ws : List ℕ} {from c : Cursor} (i : Reached ws from c) (r : Step) (q
       let p : Right ws c (Cover d next) = rw e at q in
       (i .same ∙ p .0, p .1)
 
-  pub found-end : (reading : Reading) → r ≡ Ended reading → ahead ws from ≡ endsAt reading
+  pub found-end : (reading : Admission) → r ≡ Ended reading → ahead ws from ≡ endsAt reading
   found-end reading e =
       let p : Right ws c (Ended reading) = rw e at q in
       i .same ∙ p .0

@@ -20,11 +20,12 @@ use Rattle.theorems.proofs.Records.{stands-is, head-word}
 use Rattle.theorems.proofs.MemberBounds.{perWord}
 use Rattle.theorems.proofs.ItemBounds.{placedWeight, fine-item-turn}
 use Rattle.records.specs.declared.ItemStep.{ItemStep}
-use Rattle.records.specs.declared.ItemStep.the-variants.{Next, Stop}
+use Rattle.records.specs.declared.ItemStep.the-variants.{Next}
+use Rattle.records.specs.declared.ItemStep.the-variants as item
 use Rattle.records.specs.Readable.{Readable}
 use Rattle.records.specs.Step.{plusItem, itemStep}
-use Rattle.reading.specs.declared.Reading.the-variants.{Fault}
-use Rattle.reading.specs.Steps.{Fair}
+use Rattle.reading.specs.declared.Admission.the-variants.{Refused}
+use Rattle.reading.specs.Steps.{SumsUpTo}
 use Rattle.reading.specs.Ahead.{endsAt, fromItem, Onward}
 use Rattle.reading.proofs.AheadLaws.{ahead-bad, ahead-broken, onward}
 
@@ -40,18 +41,18 @@ from-is ws at = take-all (length ws - at) (drop at ws) (omega (arith, length-dro
 
 -- a record of some kind that stands where an item is due
 pub record Met (ws : List ℕ) (s : Sums) (at k : ℕ) : Type 0 where
-  pub fair : Fair ws s at
+  pub sums-up-to : SumsUpTo ws s at
   pub here : at < length ws
   pub kind : kindOf (word ws at) ≡ k
 
-pub met : {ws : List ℕ} {s : Sums} {at : ℕ} (k : ℕ) → Fair ws s at → stands k ws at ≡ true → Met ws s at k
-met {ws = ws} {at = at} k f e = let h = stands-is k ws at e in record { fair = f; here = h .0; kind = h .1 }
+pub met : {ws : List ℕ} {s : Sums} {at : ℕ} (k : ℕ) → SumsUpTo ws s at → stands k ws at ≡ true → Met ws s at k
+met {ws = ws} {at = at} k f e = let h = stands-is k ws at e in record { sums-up-to = f; here = h .0; kind = h .1 }
 
 module _ {ws : List ℕ} {s : Sums} {at k : ℕ} (m : Met ws s at k) where
   pub part-of : Readable 1 (partAt ws at)
   part-of =
       let n : length (partAt ws at) ≡ length ws - at = ap length (from-is ws at) ∙ length-drop at ws in
-      record { within = omega (arith, n, m .here); short = omega (arith, n, m .fair .readable .short) }
+      record { within = omega (arith, n, m .here); short = omega (arith, n, m .sums-up-to .readable .short) }
 
   pub kind-here : kindOf (word (drop at ws) 0) ≡ k
   kind-here = ap kindOf (head-word ws at) ∙ m .kind
@@ -90,9 +91,9 @@ module _ (ws : List ℕ) where
 
 -- a fault at the head of an item
 pub halted : (bands : Bands) {ws : List ℕ} {s : Sums} {at k : ℕ} → Met ws s at k → (k ≡ 15 → ⊥) → (number : ℕ) → (number ≡ 0 → ⊥) → itemOf (drop at ws) ≡ bad number 0
-    → fromItem bands ws s at ≡ endsAt (Fault number at)
+    → fromItem bands ws s at ≡ endsAt (Refused number at)
 halted bands {ws} {s} {at} m ke number n e =
-    ahead-bad bands ws s at (m .fair .readable .within) number (at + 0) n (turn-here m ke ∙ ap (placed at) e) ∙ ap (λ (p : ℕ). endsAt (Fault number p)) (add-zero at)
+    ahead-bad bands ws s at (m .sums-up-to .readable .within) number (at + 0) n (turn-here m ke ∙ ap (placed at) e) ∙ ap (λ (p : ℕ). endsAt (Refused number p)) (add-zero at)
 
 -- ---- items without draws
 
@@ -131,30 +132,30 @@ module _ (bands : Bands) {ws : List ℕ} {s : Sums} {at k : ℕ} (m : Met ws s a
   step = q ∙ ap (λ (p : List ℕ). itemStep bands s (turn p)) (from-is ws at)
 
   fine : FineTurn (length ws) perWord (placedWeight bands) at (placed at (turn (drop at ws)))
-  fine = rw here at (fine-item-turn bands ws at (m .fair .readable .within))
+  fine = rw here at (fine-item-turn bands ws at (m .sums-up-to .readable .within))
 
   next-of : (t : Turn Item) → Plain t → itemTurn ws at ≡ placed at t → (sums : Sums) (next : ℕ) → itemStep bands s t ≡ Next sums next → Onward bands ws s at sums (at + next)
   next-of t bads h sums next e = let z : _≡_ {A = ℕ} 0 1 = cc in absurd (omega arith)
   next-of t (somes {i} {number = zero} {place} d) h sums next e =
       let a : plusItem bands s i ≡ sums = cc in
       let b : place ≡ next = cc in
-      rw (← a, ← b) (onward bands ws s at (m .fair) _ (at + place) h (d at))
+      rw (← a, ← b) (onward bands ws s at (m .sums-up-to) _ (at + place) h (d at))
   next-of t (somes {number = suc n} d) h sums next e = let z : _≡_ {A = ℕ} 0 1 = cc in absurd (omega arith)
 
   pub item-next : (sums : Sums) (next : ℕ) → r ≡ Next sums next → Onward bands ws s at sums (at + next)
   item-next sums next e = next-of (turn (drop at ws)) plain here sums next (sym step ∙ e)
 
-  stop-of : (t : Turn Item) → Plain t → itemTurn ws at ≡ placed at t → FineTurn (length ws) perWord (placedWeight bands) at (placed at t) → (number place : ℕ) → itemStep bands s t ≡ Stop number place
-      → (at + place ≤ length ws) × (fromItem bands ws s at ≡ endsAt (Fault number (at + place)))
-  stop-of t (bads {number = n} {place = p}) h f number place e =
+  refused-of : (t : Turn Item) → Plain t → itemTurn ws at ≡ placed at t → FineTurn (length ws) perWord (placedWeight bands) at (placed at t) → (number place : ℕ) → itemStep bands s t ≡ item.Refused number place
+      → (at + place ≤ length ws) × (fromItem bands ws s at ≡ endsAt (Refused number (at + place)))
+  refused-of t (bads {number = n} {place = p}) h f number place e =
       let a : suc n ≡ number = cc in
       let b : p ≡ place = cc in
-      rw (← a, ← b) (f .1, ahead-bad bands ws s at (m .fair .readable .within) (suc n) (at + p) (λ z. omega arith) h)
-  stop-of t (somes {number = zero} d) h f number place e = let z : _≡_ {A = ℕ} 0 1 = cc in absurd (omega arith)
-  stop-of t (somes {i} {number = suc n} {place = p} d) h f number place e =
+      rw (← a, ← b) (f .1, ahead-bad bands ws s at (m .sums-up-to .readable .within) (suc n) (at + p) (λ z. omega arith) h)
+  refused-of t (somes {number = zero} d) h f number place e = let z : _≡_ {A = ℕ} 0 1 = cc in absurd (omega arith)
+  refused-of t (somes {i} {number = suc n} {place = p} d) h f number place e =
       let a : suc n ≡ number = cc in
       let b : p ≡ place = cc in
-      rw (← a, ← b) (f .1, rw (d at) at (ahead-broken bands ws s at (m .fair .readable .within) _ n (at + p) h))
+      rw (← a, ← b) (f .1, rw (d at) at (ahead-broken bands ws s at (m .sums-up-to .readable .within) _ n (at + p) h))
 
-  pub item-stop : (number place : ℕ) → r ≡ Stop number place → (at + place ≤ length ws) × (fromItem bands ws s at ≡ endsAt (Fault number (at + place)))
-  item-stop number place e = stop-of (turn (drop at ws)) plain here fine number place (sym step ∙ e)
+  pub item-refused : (number place : ℕ) → r ≡ item.Refused number place → (at + place ≤ length ws) × (fromItem bands ws s at ≡ endsAt (Refused number (at + place)))
+  item-refused number place e = refused-of (turn (drop at ws)) plain here fine number place (sym step ∙ e)

@@ -18,17 +18,17 @@ use Rattle.theorems.proofs.Conserve
 use Rattle.theorems.proofs.MemberBounds.{perWord}
 use Rattle.theorems.proofs.ItemBounds.{nothing, fine-protection}
 use Rattle.records.proofs.Words.{turn-lacks, turn-fault, turn-on}
-use Rattle.reading.specs.declared.protections.Protections.the-variants.{Upto, Wrong}
+use Rattle.reading.specs.declared.protections.Protections.the-variants.{Upto, Refused}
 use Rattle.reading.specs.Steps.{protectionStep, placeOf}
 
 -- ---- one protection
 
 module _ (ws : List ℕ) (at : ℕ) where
-  pub due-beyond : length ws ≤ at → Wrong 14 (length ws) ≡ protectionStep (protectionTurn ws at)
+  pub due-beyond : length ws ≤ at → Refused 14 (length ws) ≡ protectionStep (protectionTurn ws at)
   unfolding protectionTurn
   due-beyond h = simp (le-leb _ _ h)
 
-  pub due-other : at < length ws → (k : ℕ) → k ≡ kindOf (word ws at) → (k ≡ 3 → ⊥) → Wrong 5 at ≡ protectionStep (protectionTurn ws at)
+  pub due-other : at < length ws → (k : ℕ) → k ≡ kindOf (word ws at) → (k ≡ 3 → ⊥) → Refused 5 at ≡ protectionStep (protectionTurn ws at)
   unfolding protectionTurn
   due-other h k q n = simp (lt-leb _ _ h, ne-eqb _ _ (λ z. n (q ∙ z)))
 
@@ -37,11 +37,11 @@ module _ (ws : List ℕ) (at : ℕ) where
     unfolding protectionTurn
     is-record = simp (lt-leb _ _ h, eq-eqb _ _ (sym kq ∙ ke))
 
-    pub due-lacks : l ≡ true → Wrong 6 at ≡ protectionStep (protectionTurn ws at)
+    pub due-lacks : l ≡ true → Refused 6 at ≡ protectionStep (protectionTurn ws at)
     due-lacks e = sym (ap protectionStep (is-record ∙ turn-lacks ws at 3 (sym kq ∙ ke) _ _ (sym lq ∙ e)))
 
     module _ (e : l ≡ false) (f : ℕ) (fq : f ≡ protectionFault (word ws at) (word ws (at + 1)) (word ws (at + 2)) (word ws (at + 3))) where
-      pub due-fault : (f ≡ 0 → ⊥) → Wrong f at ≡ protectionStep (protectionTurn ws at)
+      pub due-fault : (f ≡ 0 → ⊥) → Refused f at ≡ protectionStep (protectionTurn ws at)
       due-fault n = rw fq (sym (ap protectionStep (is-record ∙ turn-fault ws at 3 (sym kq ∙ ke) _ _ (sym lq ∙ e) (λ z. n (fq ∙ z)))))
 
       pub due-good : f ≡ 0 → Upto (at + 4) ≡ protectionStep (protectionTurn ws at)
@@ -57,7 +57,7 @@ module _ (ws : List ℕ) (at : ℕ) (w : at ≤ length ws) where
   next-of t (Filled.somes {number = zero} {place}) f rest next e = let q : place ≡ next = cc in rw (← q) (f .1, refl)
   next-of t (Filled.somes {number = suc n}) f rest next e = let z : _≡_ {A = ℕ} 0 1 = cc in absurd (omega arith)
 
-  fault-of : (t : Turn Protection) → Filled t → (rest : ℕ → Run Protection) (number place : ℕ) → protectionStep t ≡ Wrong number place → Wrong number place ≡ placeOf (thenRun t at rest)
+  fault-of : (t : Turn Protection) → Filled t → (rest : ℕ → Run Protection) (number place : ℕ) → protectionStep t ≡ Refused number place → Refused number place ≡ placeOf (thenRun t at rest)
   unfolding placeOf
   fault-of t (Filled.bads {number = n}) rest number place e = sym e ∙ simp (ne-eqb (suc n) 0 (λ z. omega arith))
   fault-of t (Filled.somes {number = zero}) rest number place e = let z : _≡_ {A = ℕ} 0 1 = cc in absurd (omega arith)
@@ -69,7 +69,7 @@ module _ (ws : List ℕ) (at : ℕ) (w : at ≤ length ws) where
   goes-on zero h next e = let z : ⊥ = omega arith in absurd z
   goes-on (suc left) h next e = rw (sub-one) (next-of (protectionTurn ws at) (protection-filled ws at) (fine-protection ws at w) (runFrom (protectionTurn ws) left) next e)
 
-  pub stops-at : (left : ℕ) → 0 < left → (number place : ℕ) → protectionStep (protectionTurn ws at) ≡ Wrong number place → Wrong number place ≡ placeOf (runFrom (protectionTurn ws) left at)
+  pub stops-at : (left : ℕ) → 0 < left → (number place : ℕ) → protectionStep (protectionTurn ws at) ≡ Refused number place → Refused number place ≡ placeOf (runFrom (protectionTurn ws) left at)
   unfolding runFrom
   stops-at zero h number place e = let z : ⊥ = omega arith in absurd z
   stops-at (suc left) h number place e = fault-of (protectionTurn ws at) (protection-filled ws at) (runFrom (protectionTurn ws) left) number place e

@@ -14,29 +14,29 @@ use Rattle.rules.specs.Run.{some}
 use Rattle.rules.specs.Read.{stands, assetAt, assetTurn, offBalanceAt, offBalanceTurn}
 use Rattle.rules.specs.Book.{Item, asset, offBalance}
 use Rattle.records.specs.declared.ItemStep.{ItemStep}
-use Rattle.records.specs.declared.ItemStep.the-variants.{Stop}
+use Rattle.records.specs.declared.ItemStep.the-variants.{Refused}
 use Rattle.records.proofs.Words.{record-good}
 use Rattle.records.specs.Step.{itemStep, assetCause, offBalanceCause}
-use Rattle.reading.specs.Steps.{Fair}
+use Rattle.reading.specs.Steps.{SumsUpTo}
 use Rattle.reading.specs.Ahead.{fromItem, Onward}
 use Rattle.reading.proofs.ItemLaws.{partAt, from-is}
 
 -- from a place and its sums on, so far: what lies ahead is the same
 pub record Passing (bands : Bands) (ws : List ℕ) (s : Sums) (from : ℕ) (t : Sums) (at : ℕ) : Type 0 where
   pub same : fromItem bands ws s from ≡ fromItem bands ws t at
-  pub fair : Fair ws t at
+  pub sums-up-to : SumsUpTo ws t at
   pub reached : from ≤ at
 
-pub passing-none : {bands : Bands} {ws : List ℕ} {s : Sums} {from : ℕ} → Fair ws s from → Passing bands ws s from s from
-passing-none f = record { same = refl; fair = f; reached = omega arith }
+pub passing-none : {bands : Bands} {ws : List ℕ} {s : Sums} {from : ℕ} → SumsUpTo ws s from → Passing bands ws s from s from
+passing-none f = record { same = refl; sums-up-to = f; reached = omega arith }
 
 module _ {bands : Bands} {ws : List ℕ} {s : Sums} {from : ℕ} {t : Sums} {at : ℕ} (p : Passing bands ws s from t at) where
   pub passing-more : {sums : Sums} {next : ℕ} → Onward bands ws t at sums next → Passing bands ws s from sums next
-  passing-more o = record { same = p .same ∙ o .same; fair = o .fair; reached = omega (arith, p .reached, o .further) }
+  passing-more o = record { same = p .same ∙ o .same; sums-up-to = o .sums-up-to; reached = omega (arith, p .reached, o .further) }
 
   -- a run that has left its first place
   pub passed : (at ≡ from → ⊥) → Onward bands ws s from t at
-  passed n = record { same = p .same; fair = p .fair; further = go (leb at from) refl }
+  passed n = record { same = p .same; sums-up-to = p .sums-up-to; further = go (leb at from) refl }
     where
       go : (b : Bool) → leb at from ≡ b → from < at
       go true e = absurd (n (omega (arith, leb-true at from e, p .reached)))
@@ -50,7 +50,7 @@ module _ (ws : List ℕ) (at from : ℕ) where
   left-standing k b q e h z = let c : _≡_ {A = Bool} true false = sym h ∙ ap (stands k ws) (sym z) ∙ sym q ∙ e in let n : _≡_ {A = ℕ} 0 1 = cc in omega arith
 
   -- where an item is faulty
-  module _ (bands : Bands) (t : Sums) (number place : ℕ) (r : ItemStep) (e : r ≡ Stop number place) where
+  module _ (bands : Bands) (t : Sums) (number place : ℕ) (r : ItemStep) (e : r ≡ Refused number place) where
     good-step : (i : Item) (next : ℕ) → r ≡ itemStep bands t (some i 0 next) → ⊥
     good-step i next q = let n : _≡_ {A = ℕ} 0 1 = cc in omega arith
 

@@ -8,19 +8,19 @@ use Rattle.rules.specs.Word.{bitOf}
 use Rattle.rules.specs.Weigh.{marginOffsets, replacementOf, weightedIn}
 use Rattle.theorems.proofs.ItemRows.{marked, replacement-at-most, weighted-at-most}
 use Rattle.derivatives.specs.declared.tally.Tally.{Tally}
-use Rattle.derivatives.specs.Gathered.{Weighable, plusSet, setOf, tallyBy}
-use Rattle.derivatives.specs.Ahead.{SmallTally}
-use Rattle.reading.specs.Steps.{allSums, Fair}
+use Rattle.derivatives.specs.Gathered.{TallyFits, plusSet, setOf, tallyBy}
+use Rattle.derivatives.specs.Ahead.{TallyUpTo}
+use Rattle.reading.specs.Steps.{allSums, SumsUpTo}
 
 -- a tally of so many words is not too large
-pub weighable : {t : Tally} {place : ℕ} → SmallTally t place → place ≤ 2 ^ 20 → Weighable t
-weighable l h = record { weight = omega (arith, l .weight); losses = omega (arith, l .losses); uncovered = l .uncovered }
+pub tally-fits : {t : Tally} {place : ℕ} → TallyUpTo t place → place ≤ 2 ^ 20 → TallyFits t
+tally-fits l h = record { weight = omega (arith, l .weight); losses = omega (arith, l .losses); uncovered = l .uncovered }
 
 -- the head of the set makes up for its margin and collateral
-pub fair-with-set : {ws : List ℕ} {s : Sums} {at : ℕ} → Fair ws s at → (w received paid posted : ℕ) (t : Tally) (place : ℕ) → SmallTally t place → at + place ≤ length ws
-    → Fair ws (plusSet s (setOf w received paid posted []) t) (at + place)
+pub sums-with-set : {ws : List ℕ} {s : Sums} {at : ℕ} → SumsUpTo ws s at → (w received paid posted : ℕ) (t : Tally) (place : ℕ) → TallyUpTo t place → at + place ≤ length ws
+    → SumsUpTo ws (plusSet s (setOf w received paid posted []) t) (at + place)
 unfolding allSums
-fair-with-set {s = s} f w received paid posted t place l h =
+sums-with-set {s = s} f w received paid posted t place l h =
     let d = setOf w received paid posted [] in
     let small = f .small in
     let weight = l .weight in

@@ -13,7 +13,7 @@ use Rattle.rules.specs.Register.{drawsOf}
 use Rattle.theorems.proofs.Records.{lacks-room}
 use Rattle.records.proofs.Words.{record-good}
 use Rattle.derivatives.specs.Gathered.{noTally}
-use Rattle.derivatives.specs.Ahead.{membersAhead, fromMember, setAhead, setCause, openedSet, SoundSet}
+use Rattle.derivatives.specs.Ahead.{membersAhead, fromMember, setAhead, setCause, newSet, SoundSet}
 use Rattle.derivatives.proofs.Entry.{item-is}
 use Rattle.reading.specs.Ahead.{after, setBehind, fromItem, fromSet}
 use Rattle.reading.proofs.AheadLaws.{ahead-some, ahead-broken}
@@ -34,7 +34,7 @@ module _ (bands : Bands) (ws : List ℕ) (s : Sums) (at : ℕ) (w : at ≤ lengt
   members-then records (suc number) place e = ahead-broken bands ws s at w _ number (at + place) e
 
 pub set-opens : (bands : Bands) {ws : List ℕ} {s : Sums} {at : ℕ} → Met ws s at 4 → (cause : ℕ) → cause ≡ setCause (partAt ws at) → cause ≡ 0
-    → (fromItem bands ws s at ≡ fromSet bands ws s at openedSet) × SoundSet (drop at ws) at openedSet
+    → (fromItem bands ws s at ≡ fromSet bands ws s at newSet) × SoundSet (drop at ws) at newSet
 unfolding setCause derivativeSetTurn fromSet setAhead fromMember
 set-opens bands {ws} {s} {at} m cause q e =
     let part = drop at ws in
@@ -42,9 +42,9 @@ set-opens bands {ws} {s} {at} m cause q e =
     let g = record-good part 0 4 (kind-here m) _ (λ (next : ℕ). withMembers part (runFrom (memberTurn part) (suc (length part)) next)) (ap setCause (sym (from-is ws at)) ∙ sym q ∙ e) in
     let n = length-drop at ws in
     let l = lacks-room 3 part 0 (g .0) (omega (arith, m .here)) in (
-      members-then bands ws s at (m .fair .readable .within) (r .records) (r .number) (r .place) (turn-here m (λ z. omega arith) ∙ ap (placed at) (of-kind-4 part (kind-here m) ∙ g .1)),
+      members-then bands ws s at (m .sums-up-to .readable .within) (r .records) (r .number) (r .place) (turn-here m (λ z. omega arith) ∙ ap (placed at) (of-kind-4 part (kind-here m) ∙ g .1)),
       record {
-        short = omega (arith, m .fair .readable .short, m .here);
+        short = omega (arith, m .sums-up-to .readable .short, m .here);
         within = omega arith;
         small = record { weight = omega arith; losses = omega arith; uncovered = omega arith };
         credit = λ z. let n : _≡_ {A = ℕ} 0 1 = cc in absurd (omega arith);

@@ -10,20 +10,21 @@ use Rattle.rules.specs.declared.Draw.{Draw}
 use Rattle.rules.specs.declared.Sums.{Sums}
 use Rattle.rules.specs.Word.{word}
 use Rattle.rules.specs.Read.{headOf}
-use Rattle.records.specs.Step.{Roomy}
+use Rattle.records.specs.Step.{SumsRoomy}
 use Rattle.derivatives.specs.declared.tally.Tally.{Tally}
 use Rattle.derivatives.specs.declared.set.OpenSet.{OpenSet}
 use Rattle.derivatives.specs.declared.set.Weighed.{Weighed}
-use Rattle.derivatives.specs.declared.set.Weighed.the-variants.{Covering, Whole, Refused}
-use Rattle.derivatives.specs.Gathered.{Weighable, plusSet, setOf}
-use Rattle.derivatives.specs.Ahead.{setAhead, SmallTally, SoundSet, weighedAhead, SoundWeighed}
-use Rattle.reading.specs.declared.Reading.the-variants.{Fault}
+use Rattle.derivatives.specs.declared.set.Weighed.the-variants.{Whole}
+use Rattle.derivatives.specs.declared.set.Weighed.the-variants as set
+use Rattle.derivatives.specs.Gathered.{TallyFits, plusSet, setOf}
+use Rattle.derivatives.specs.Ahead.{setAhead, TallyUpTo, SoundSet, weighedAhead, SoundWeighed}
+use Rattle.reading.specs.declared.Admission.the-variants.{Refused}
 use Rattle.reading.specs.declared.cursor.Cursor.{Cursor}
 use Rattle.reading.specs.declared.steps.Step.the-variants.{On, Cover, Ended}
 use Rattle.reading.specs.Ahead.{setBehind, fromSet, ahead, Sound}
-use Rattle.reading.proofs.AheadLaws.{roomy}
+use Rattle.reading.proofs.AheadLaws.{sums-roomy}
 use Rattle.reading.proofs.ItemLaws.{partAt, from-is}
-use Rattle.reading.proofs.SetBounds.{weighable, fair-with-set}
+use Rattle.reading.proofs.SetBounds.{tally-fits, sums-with-set}
 use Rattle.reading.proofs.CursorLaws.{itemCursor, setCursor, sound-item, sound-set, ahead-set, left-set, Right}
 
 -- the set stands in its part of the book
@@ -39,14 +40,14 @@ module _ {ws : List ℕ} {c : Cursor} (so : Sound ws c) (b : c .begun ≡ true) 
   unfolding fromSet
   told = ahead-set ws c b i ∙ ap (setBehind (headOf ws .bands) ws (c .sums) (c .at)) (weighed .0)
 
-  pub step-covering : (d : Draw) (o : OpenSet) → r ≡ Covering d o → Right ws c (Cover d (setCursor (c .at) (c .sums) o))
+  pub step-cover : (d : Draw) (o : OpenSet) → r ≡ set.Cover d o → Right ws c (Cover d (setCursor (c .at) (c .sums) o))
   unfolding ahead fromSet
-  step-covering d o e =
+  step-cover d o e =
       let t : SoundSet (drop (c .at) ws) (c .at) o = rw e at (weighed .1) in
-      (rw e at told, sound-set so (so .fair b) t)
+      (rw e at told, sound-set so (so .sums-up-to b) t)
 
   module _ (t : Tally) (place : ℕ) (e : r ≡ Whole t place) where
-    tally-there : SmallTally t place × (place ≤ length (drop (c .at) ws))
+    tally-there : TallyUpTo t place × (place ≤ length (drop (c .at) ws))
     tally-there = rw e at (weighed .1)
 
     -- the four words of its head stand there, and the place behind it
@@ -54,10 +55,10 @@ module _ {ws : List ℕ} {c : Cursor} (so : Sound ws c) (b : c .begun ≡ true) 
     set-there =
         let l = tally-there in
         let w = l .0 .weight in
-        (omega arith, rw (from-is ws (c .at)) (l .1), omega (arith, l .1, length-drop (c .at) ws, so .fair b .readable .within))
+        (omega arith, rw (from-is ws (c .at)) (l .1), omega (arith, l .1, length-drop (c .at) ws, so .sums-up-to b .readable .within))
 
-    pub set-roomy : Roomy (c .sums) × Weighable t
-    set-roomy = (roomy (so .fair b), weighable (tally-there .0) (omega (arith, set-there .2, so .readable .short)))
+    pub set-roomy : SumsRoomy (c .sums) × TallyFits t
+    set-roomy = (sums-roomy (so .sums-up-to b), tally-fits (tally-there .0) (omega (arith, set-there .2, so .readable .short)))
 
     pub step-whole : (s : Sums) → s ≡ plusSet (c .sums) (setOf (word (partAt ws (c .at)) 0) (word (partAt ws (c .at)) 1) (word (partAt ws (c .at)) 2) (word (partAt ws (c .at)) 3) []) t
         → (o : OpenSet) → Right ws c (On (itemCursor (c .at + place) s o))
@@ -67,16 +68,16 @@ module _ {ws : List ℕ} {c : Cursor} (so : Sound ws c) (b : c .begun ≡ true) 
         rw sq (
           rw (e, ← from-is ws (c .at)) at told,
           (
-            sound-item so o (fair-with-set (so .fair b) (word p 0) (word p 1) (word p 2) (word p 3) t place (tally-there .0) (set-there .2)),
+            sound-item so o (sums-with-set (so .sums-up-to b) (word p 0) (word p 1) (word p 2) (word p 3) t place (tally-there .0) (set-there .2)),
             omega (arith, left-set ws c b i, set-there .0, set-there .2),
           ),
         )
 
-  module _ (number place : ℕ) (e : r ≡ Refused number place) where
+  module _ (number place : ℕ) (e : r ≡ set.Refused number place) where
     pub fault-there : c .at + place ≤ length ws
     fault-there =
         let l : place ≤ length (drop (c .at) ws) = rw e at (weighed .1) in
-        omega (arith, l, length-drop (c .at) ws, so .fair b .readable .within)
+        omega (arith, l, length-drop (c .at) ws, so .sums-up-to b .readable .within)
 
-    pub step-refused : Right ws c (Ended (Fault number (c .at + place)))
+    pub step-refused : Right ws c (Ended (Refused number (c .at + place)))
     step-refused = (rw e at told, tt)

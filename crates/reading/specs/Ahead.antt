@@ -18,24 +18,25 @@ use Rattle.rules.specs.Rows.{row1, row2, row4, row5, row6, row7, row8, row9, ro
 use Rattle.records.specs.Readable.{Readable}
 use Rattle.derivatives.specs.declared.set.OpenSet.{OpenSet}
 use Rattle.derivatives.specs.Gathered.{plusSet, setOf}
-use Rattle.derivatives.specs.Ahead.{Ending, gathered, broken, SetAhead, setAhead, openedSet, SoundSet}
-use Rattle.reading.specs.declared.Reading.{Reading}
-use Rattle.reading.specs.declared.Reading.the-variants.{Whole, Fault}
+use Rattle.derivatives.specs.Ahead.{Ending, gathered, refused, SetAhead, setAhead, newSet, SoundSet}
+use Rattle.reading.specs.declared.Admission.{Admission}
+use Rattle.reading.specs.declared.Admission.the-variants.{Admitted, Refused}
 use Rattle.reading.specs.declared.cursor.Cursor.{Cursor}
-use Rattle.reading.specs.declared.cursor.Found.{Found}
+use Rattle.reading.specs.declared.cursor.NextCover.{NextCover}
 use Rattle.reading.specs.declared.items.ItemAnswer.{ItemAnswer}
-use Rattle.reading.specs.declared.items.ItemAnswer.the-variants.{More, Set, End, Halt}
+use Rattle.reading.specs.declared.items.ItemAnswer.the-variants.{More, Set, End}
+use Rattle.reading.specs.declared.items.ItemAnswer.the-variants as item
 use Rattle.reading.specs.declared.steps.Step.{Step}
 use Rattle.reading.specs.declared.steps.Step.the-variants.{On, Cover, Ended}
-use Rattle.reading.specs.Steps.{readingOf, Fair}
+use Rattle.reading.specs.Steps.{readingOf, SumsUpTo}
 
 -- ---- what lies ahead
 
 pub record Ahead : Type 0 where
-  pub reading : Reading
+  pub reading : Admission
   pub draws : List Draw
 
-abbrev pub endsAt : Reading → Ahead
+abbrev pub endsAt : Admission → Ahead
 endsAt r = record { reading = r; draws = [] }
 
 abbrev pub after : List Draw → Ahead → Ahead
@@ -63,7 +64,7 @@ plusAll bands s ps = record {
 
 abbrev pub itemsAhead : Bands → Sums → Run Placed → Ahead
 itemsAhead bands s r = record {
-  reading = cond (eqb (r .number) 0) (Whole (plusAll bands s (r .records)) (r .place)) (Fault (r .number) (r .place));
+  reading = cond (eqb (r .number) 0) (Admitted (plusAll bands s (r .records))) (Refused (r .number) (r .place));
   draws = drawsOver (r .records);
 }
 
@@ -74,7 +75,7 @@ fromItem bands ws s at = itemsAhead bands s (runFrom (itemTurn ws) (suc (length 
 abbrev pub setThen : Bands → List ℕ → Sums → (begin : ℕ) → Ending → Ahead
 setThen bands ws s begin (gathered t place) =
     fromItem bands ws (plusSet s (setOf (word (drop begin ws) 0) (word (drop begin ws) 1) (word (drop begin ws) 2) (word (drop begin ws) 3) []) t) (begin + place)
-setThen bands ws s begin (broken number place) = endsAt (Fault number (begin + place))
+setThen bands ws s begin (refused number place) = endsAt (Refused number (begin + place))
 
 abbrev pub setBehind : Bands → List ℕ → Sums → (begin : ℕ) → SetAhead → Ahead
 setBehind bands ws s begin a = after (a .draws) (setThen bands ws s begin (a .ending))
@@ -114,13 +115,13 @@ noSums = record {
   unconverted = 0;
 }
 
-abbrev pub startCursor : Cursor
-startCursor = record { begun = false; inside = false; at = firstRecord; sums = noSums; set = openedSet }
+abbrev pub newCursor : Cursor
+newCursor = record { begun = false; inside = false; at = firstRecord; sums = noSums; set = newSet }
 
 -- a cursor of a book: sums and tally are as large as its words allow
 pub record Sound (ws : List ℕ) (c : Cursor) : Type 0 where
   pub readable : Readable firstRecord ws
-  pub fair : c .begun ≡ true → Fair ws (c .sums) (c .at)
+  pub sums-up-to : c .begun ≡ true → SumsUpTo ws (c .sums) (c .at)
   pub set : c .begun ≡ true → c .inside ≡ true → SoundSet (drop (c .at) ws) (c .at) (c .set)
 
 -- how much is left to read: a step reads words, or goes into a set, or past the protections
@@ -132,21 +133,21 @@ left ws c = cond (c .begun) (2 * (length ws - c .at) + cond (c .inside) 0 1) (2 
 -- items without a fault lead from a place and its sums to one further on: what lies ahead is the same
 pub record Onward (bands : Bands) (ws : List ℕ) (s : Sums) (from : ℕ) (sums : Sums) (next : ℕ) : Type 0 where
   pub same : fromItem bands ws s from ≡ fromItem bands ws sums next
-  pub fair : Fair ws sums next
+  pub sums-up-to : SumsUpTo ws sums next
   pub further : from < next
 
 -- where an item is due: items, and the sums with them; a derivative set; the end word; or a fault
 abbrev pub answerAhead : Bands → List ℕ → Sums → (at : ℕ) → ItemAnswer → Ahead
 answerAhead bands ws s at (More sums next) = fromItem bands ws sums next
-answerAhead bands ws s at Set = fromSet bands ws s at openedSet
-answerAhead bands ws s at End = endsAt (Whole s at)
-answerAhead bands ws s at (Halt number place) = endsAt (Fault number place)
+answerAhead bands ws s at Set = fromSet bands ws s at newSet
+answerAhead bands ws s at End = endsAt (Admitted s)
+answerAhead bands ws s at (item.Refused number place) = endsAt (Refused number place)
 
 abbrev pub SoundAnswer : List ℕ → (at : ℕ) → ItemAnswer → Type 0
-SoundAnswer ws at (More sums next) = Fair ws sums next × (at < next)
-SoundAnswer ws at Set = SoundSet (drop at ws) at openedSet
+SoundAnswer ws at (More sums next) = SumsUpTo ws sums next × (at < next)
+SoundAnswer ws at Set = SoundSet (drop at ws) at newSet
 SoundAnswer ws at End = Unit {0}
-SoundAnswer ws at (Halt number place) = Unit {0}
+SoundAnswer ws at (item.Refused number place) = Unit {0}
 
 -- one step of the reading
 abbrev pub stepAhead : List ℕ → Step → Ahead
@@ -163,8 +164,8 @@ SoundStep ws c (Ended r) = Unit {0}
 abbrev pub noDraw : Draw
 noDraw = record { at = 0; entity = 0; rank = 0; days = 0; room = 0; protection = 0; amount = 0 }
 
-abbrev pub foundAhead : List ℕ → Found → Ahead
-foundAhead ws f = cond (f .some) (after (f .draw ∷ []) (ahead ws (f .cursor))) (endsAt (f .reading))
+abbrev pub nextAhead : List ℕ → NextCover → Ahead
+nextAhead ws f = cond (f .some) (after (f .draw ∷ []) (ahead ws (f .cursor))) (endsAt (f .reading))
 
-abbrev pub SoundFound : List ℕ → Found → Type 0
-SoundFound ws f = f .some ≡ true → Sound ws (f .cursor)
+abbrev pub SoundNext : List ℕ → NextCover → Type 0
+SoundNext ws f = f .some ≡ true → Sound ws (f .cursor)

@@ -1,16 +1,15 @@
 // Where the reading of a book stands, and the next cover from there on.
-use crate::Reading;
+use crate::Admission;
 use crate::head::bands_of;
 use crate::steps::Step;
 use crate::steps::next_step;
 use derivatives::set::OpenSet;
-use derivatives::set::opened;
 use rules::Draw;
 use rules::Sums;
 use rules::limits;
 ghost use mathlib.Core.Path.{_≡_};
 ghost use denote.Ref.{now};
-ghost use Rattle.reading.specs.Ahead.{Sound, SoundFound, ahead, foundAhead, noDraw, noSums, startCursor};
+ghost use Rattle.reading.specs.Ahead.{Sound, SoundNext, ahead, nextAhead, noDraw, noSums, newCursor};
 
 // Before the protections; where an item is due, with the sums of those before; or inside a derivative set, whose head stands there.
 pub struct Cursor {
@@ -22,11 +21,11 @@ pub struct Cursor {
 }
 
 // Whether there is a further cover; if so the cover as a draw, and the cursor behind it, else what the reading comes to.
-pub struct Found {
+pub struct NextCover {
     pub some: bool,
     pub draw: Draw,
     pub cursor: Cursor,
-    pub reading: Reading,
+    pub reading: Admission,
 }
 
 pub fn no_sums() -> Sums
@@ -51,16 +50,18 @@ pub fn no_sums() -> Sums
     }
 }
 
-// Before the first record behind the head.
-pub fn start() -> Cursor
-    ensures { λ r. ⌜ r ≡ startCursor ⌝ }
-{
-    Cursor {
-        begun: false,
-        inside: false,
-        at: limits::FIRST_RECORD,
-        sums: no_sums(),
-        set: opened(),
+impl Cursor {
+    // Before the first record behind the head.
+    pub fn new() -> Cursor
+        ensures { λ r. ⌜ r ≡ newCursor ⌝ }
+    {
+        Cursor {
+            begun: false,
+            inside: false,
+            at: limits::FIRST_RECORD,
+            sums: no_sums(),
+            set: OpenSet::new(),
+        }
     }
 }
 
@@ -79,9 +80,9 @@ fn no_draw() -> Draw
 }
 
 // The first cover from a cursor on.
-pub fn next_draw(book: &[u32], from: Cursor) -> Found
+pub fn next_draw(book: &[u32], from: Cursor) -> NextCover
     requires { ⌜ Sound (now book) from ⌝ }
-    ensures { λ r. ⌜ (ahead (now (book .entry)) from ≡ foundAhead (now (book .entry)) r) × SoundFound (now (book .entry)) r ⌝ }
+    ensures { λ r. ⌜ (ahead (now (book .entry)) from ≡ nextAhead (now (book .entry)) r) × SoundNext (now (book .entry)) r ⌝ }
 {
     let bands = bands_of(book);
     let mut c = from;
@@ -91,15 +92,18 @@ pub fn next_draw(book: &[u32], from: Cursor) -> Found
                 c = next;
             }
             Step::Cover(draw, next) => {
-                return Found {
+                return NextCover {
                     some: true,
                     draw: draw,
                     cursor: next,
-                    reading: Reading::Fault(0, 0),
+                    reading: Admission::Refused {
+                        number: 0,
+                        place: 0,
+                    },
                 };
             }
             Step::Ended(reading) => {
-                return Found {
+                return NextCover {
                     some: false,
                     draw: no_draw(),
                     cursor: c,

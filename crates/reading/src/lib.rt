@@ -9,8 +9,8 @@ mod protections;
 mod runs;
 mod steps;
 
-// The sums of a book whose records are all good, and the place of its end word; or the number and the place of the first fault.
-pub enum Reading {
-    Whole(Sums, usize),
-    Fault(u32, usize),
+// What a book comes to: admitted with its sums, or refused with a number at a place.
+pub enum Admission {
+    Admitted(Sums),
+    Refused { number: u32, place: usize },
 }

@@ -22,7 +22,7 @@ ghost use Rattle.reading.specs.Steps.{placeOf, protectionStep};
 // What stands where a protection is due, and how far the protections reach.
 pub enum Protections {
     Upto(usize),
-    Wrong(u32, usize),
+    Refused { number: u32, place: usize },
 }
 
 // The causes 7 to 9 of a protection with these words.
@@ -52,17 +52,29 @@ fn protection(book: &[u32], at: usize) -> Protections
     ensures { λ r. ⌜ r ≡ protectionStep (protectionTurn (now (book .entry)) at) ⌝ }
 {
     if book.len() <= at {
-        return Protections::Wrong(causes::END_FAULTY, book.len());
+        return Protections::Refused {
+            number: causes::END_FAULTY,
+            place: book.len(),
+        };
     }
     if kind(book[at]) != kinds::PROTECTION {
-        return Protections::Wrong(causes::KIND_NOT_ALLOWED, at);
+        return Protections::Refused {
+            number: causes::KIND_NOT_ALLOWED,
+            place: at,
+        };
     }
     if lacking(book, at, amounts::PROTECTION) {
-        return Protections::Wrong(causes::WORDS_LACKING, at);
+        return Protections::Refused {
+            number: causes::WORDS_LACKING,
+            place: at,
+        };
     }
     let fault = protection_fault(book[at], book[at + 1], book[at + 2], book[at + 3]);
     if fault != causes::NONE {
-        return Protections::Wrong(fault, at);
+        return Protections::Refused {
+            number: fault,
+            place: at,
+        };
     }
     Protections::Upto(at + lengths::PROTECTION)
 }
@@ -79,8 +91,8 @@ pub fn read_protections(book: &[u32], b: usize) -> Protections
                 at = next;
                 left -= 1;
             }
-            Protections::Wrong(number, place) => {
-                return Protections::Wrong(number, place);
+            Protections::Refused { number, place } => {
+                return Protections::Refused { number, place };
             }
         }
     }

@@ -12,7 +12,7 @@ ghost use lib.ListN.{drop};
 ghost use denote.Ref.{now};
 ghost use Rattle.rules.specs.Read.{stands};
 ghost use Rattle.records.specs.Step.{assetCause, offBalanceCause};
-ghost use Rattle.reading.specs.Steps.{Fair};
+ghost use Rattle.reading.specs.Steps.{SumsUpTo};
 ghost use Rattle.reading.specs.Ahead.{Onward};
 
 // The sums and the place behind some items.
@@ -23,7 +23,7 @@ pub struct Passed {
 
 // From a good asset up to the first word that begins none, or one with a fault.
 pub fn assets(book: &[u32], from: usize, s: Sums, bands: Bands) -> Passed
-    requires { ⌜ Fair (now book) s from × ((stands 2 (now book) from ≡ true) × (assetCause (drop from (now book)) ≡ 0)) ⌝ }
+    requires { ⌜ SumsUpTo (now book) s from × ((stands 2 (now book) from ≡ true) × (assetCause (drop from (now book)) ≡ 0)) ⌝ }
     ensures { λ r. ⌜ Onward bands (now (book .entry)) s from (r .sums) (r .next) ⌝ }
 {
     let mut t = s;
@@ -35,7 +35,10 @@ pub fn assets(book: &[u32], from: usize, s: Sums, bands: Bands) -> Passed
                 t = sums;
                 at = at + next;
             }
-            ItemStep::Stop(_, _) => {
+            ItemStep::Refused {
+                number: _,
+                place: _,
+            } => {
                 return Passed { sums: t, next: at };
             }
         }
@@ -45,7 +48,7 @@ pub fn assets(book: &[u32], from: usize, s: Sums, bands: Bands) -> Passed
 
 // The same of off-balance items.
 pub fn off_balance_items(book: &[u32], from: usize, s: Sums, bands: Bands) -> Passed
-    requires { ⌜ Fair (now book) s from × ((stands 10 (now book) from ≡ true) × (offBalanceCause (drop from (now book)) ≡ 0)) ⌝ }
+    requires { ⌜ SumsUpTo (now book) s from × ((stands 10 (now book) from ≡ true) × (offBalanceCause (drop from (now book)) ≡ 0)) ⌝ }
     ensures { λ r. ⌜ Onward bands (now (book .entry)) s from (r .sums) (r .next) ⌝ }
 {
     let mut t = s;
@@ -57,7 +60,10 @@ pub fn off_balance_items(book: &[u32], from: usize, s: Sums, bands: Bands) -> Pa
                 t = sums;
                 place = place + next;
             }
-            ItemStep::Stop(_, _) => {
+            ItemStep::Refused {
+                number: _,
+                place: _,
+            } => {
                 return Passed {
                     sums: t,
                     next: place,

@@ -1,5 +1,5 @@
 // One step of the reading: the protections, what stands where an item is due, or the members of a derivative set up to the next cover.
-use crate::Reading;
+use crate::Admission;
 use crate::cursor::Cursor;
 use crate::cursor::no_sums;
 use crate::items::ItemAnswer;
@@ -7,8 +7,8 @@ use crate::items::item_at;
 use crate::protections::Protections;
 use crate::protections::read_protections;
 use derivatives::rows::with_set;
+use derivatives::set::OpenSet;
 use derivatives::set::Weighed;
-use derivatives::set::opened;
 use derivatives::set::weigh;
 use rules::Bands;
 use rules::Draw;
@@ -23,7 +23,7 @@ ghost use Rattle.reading.specs.Ahead.{Sound, SoundStep, ahead, stepAhead
 pub enum Step {
     On(Cursor),
     Cover(Draw, Cursor),
-    Ended(Reading),
+    Ended(Admission),
 }
 
 pub fn next_step(book: &[u32], c: Cursor, bands: Bands) -> Step
@@ -45,13 +45,13 @@ fn protections_step(book: &[u32], c: Cursor) -> Step
     ensures { λ r. ⌜ (ahead (now (book .entry)) c ≡ stepAhead (now (book .entry)) r) × SoundStep (now (book .entry)) c r ⌝ }
 {
     match read_protections(book, payload(book[0]) as usize) {
-        Protections::Wrong(number, place) => Step::Ended(Reading::Fault(number, place)),
+        Protections::Refused { number, place } => Step::Ended(Admission::Refused { number, place }),
         Protections::Upto(at) => Step::On(Cursor {
             begun: true,
             inside: false,
             at: at,
             sums: no_sums(),
-            set: opened(),
+            set: OpenSet::new(),
         }),
     }
 }
@@ -66,7 +66,7 @@ fn set_step(book: &[u32], c: Cursor, bands: Bands) -> Step
     let set = c.set;
     let part = &book[at..];
     match weigh(part, at, set, bands) {
-        Weighed::Covering(draw, next) => Step::Cover(
+        Weighed::Cover(draw, next) => Step::Cover(
             draw,
             Cursor {
                 begun: true,
@@ -81,9 +81,12 @@ fn set_step(book: &[u32], c: Cursor, bands: Bands) -> Step
             inside: false,
             at: at + place,
             sums: with_set(sums, part[0], part[1], part[2], part[3], t),
-            set: opened(),
+            set: OpenSet::new(),
         }),
-        Weighed::Refused(number, place) => Step::Ended(Reading::Fault(number, at + place)),
+        Weighed::Refused { number, place } => Step::Ended(Admission::Refused {
+            number,
+            place: at + place,
+        }),
     }
 }
 
@@ -99,16 +102,16 @@ fn item_step(book: &[u32], c: Cursor, bands: Bands) -> Step
             inside: false,
             at: next,
             sums: more,
-            set: opened(),
+            set: OpenSet::new(),
         }),
         ItemAnswer::Set => Step::On(Cursor {
             begun: true,
             inside: true,
             at: at,
             sums: sums,
-            set: opened(),
+            set: OpenSet::new(),
         }),
-        ItemAnswer::End => Step::Ended(Reading::Whole(sums, at)),
-        ItemAnswer::Halt(number, place) => Step::Ended(Reading::Fault(number, place)),
+        ItemAnswer::End => Step::Ended(Admission::Admitted(sums)),
+        ItemAnswer::Refused { number, place } => Step::Ended(Admission::Refused { number, place }),
     }
 }

@@ -13,7 +13,7 @@ use Rattle.rules.specs.Faults.{assetFault}
 use Rattle.rules.specs.Read.{lacks, assetAt, assetTurn}
 use Rattle.rules.specs.Rows.{assetRows}
 use Rattle.theorems.proofs.Valid.{cause-none}
-use Rattle.records.specs.declared.ItemStep.the-variants.{Next, Stop}
+use Rattle.records.specs.declared.ItemStep.the-variants.{Next, Refused}
 use Rattle.records.specs.Step.{plusItem, plusAsset, itemStep}
 use Rattle.records.proofs.Words.{turn-lacks, turn-fault, turn-on}
 
@@ -35,12 +35,12 @@ asset-within w c p d f q e =
     ltb-false _ _ (cause-none 8 _ _ b .0)
 
 module _ (bands : Bands) (s : Sums) (ws : List ℕ) (k : kindOf (word ws 0) ≡ 2) (l : Bool) (lq : l ≡ lacks 3 ws 0) where
-  pub asset-lacks : l ≡ true → Stop 6 0 ≡ itemStep bands s (assetTurn ws)
+  pub asset-lacks : l ≡ true → Refused 6 0 ≡ itemStep bands s (assetTurn ws)
   unfolding assetTurn
   asset-lacks e = sym (ap (itemStep bands s) (turn-lacks ws 0 2 k _ _ (sym lq ∙ e)))
 
   module _ (e : l ≡ false) (f : ℕ) (fq : f ≡ assetFault (word ws 0) (word ws 1) (word ws 2) (word ws 3)) where
-    pub asset-stops : (f ≡ 0 → ⊥) → Stop f 0 ≡ itemStep bands s (assetTurn ws)
+    pub asset-stops : (f ≡ 0 → ⊥) → Refused f 0 ≡ itemStep bands s (assetTurn ws)
     unfolding assetTurn
     asset-stops h = rw fq (sym (ap (itemStep bands s) (turn-fault ws 0 2 k _ _ (sym lq ∙ e) (λ z. h (fq ∙ z)))))
 

@@ -11,7 +11,7 @@ use Rattle.rules.specs.Word.{word, kindOf}
 use Rattle.rules.specs.Book.{offBalance}
 use Rattle.rules.specs.Faults.{offBalanceFault}
 use Rattle.rules.specs.Read.{lacks, offBalanceAt, offBalanceTurn}
-use Rattle.records.specs.declared.ItemStep.the-variants.{Next, Stop}
+use Rattle.records.specs.declared.ItemStep.the-variants.{Next, Refused}
 use Rattle.records.specs.Step.{plusItem, plusOffBalance, itemStep}
 use Rattle.records.proofs.Words.{turn-lacks, turn-fault, turn-on}
 
@@ -21,12 +21,12 @@ unfolding plusOffBalance offBalanceAt
 plus-off-balance bands s ws = simp add-zero
 
 module _ (bands : Bands) (s : Sums) (ws : List ℕ) (k : kindOf (word ws 0) ≡ 10) (l : Bool) (lq : l ≡ lacks 1 ws 0) where
-  pub off-balance-lacks : l ≡ true → Stop 6 0 ≡ itemStep bands s (offBalanceTurn ws)
+  pub off-balance-lacks : l ≡ true → Refused 6 0 ≡ itemStep bands s (offBalanceTurn ws)
   unfolding offBalanceTurn
   off-balance-lacks e = sym (ap (itemStep bands s) (turn-lacks ws 0 10 k _ _ (sym lq ∙ e)))
 
   module _ (e : l ≡ false) (f : ℕ) (fq : f ≡ offBalanceFault (word ws 0) (word ws 1)) where
-    pub off-balance-stops : (f ≡ 0 → ⊥) → Stop f 0 ≡ itemStep bands s (offBalanceTurn ws)
+    pub off-balance-stops : (f ≡ 0 → ⊥) → Refused f 0 ≡ itemStep bands s (offBalanceTurn ws)
     unfolding offBalanceTurn
     off-balance-stops h = rw fq (sym (ap (itemStep bands s) (turn-fault ws 0 10 k _ _ (sym lq ∙ e) (λ z. h (fq ∙ z)))))
 

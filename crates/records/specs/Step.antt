@@ -12,7 +12,7 @@ use Rattle.rules.specs.Book.{Item}
 use Rattle.rules.specs.Run.{Turn, over, bad, some}
 use Rattle.rules.specs.Rows.{row1, row2, row4, row5, row6, row7, row8, row9, row10, row12, row13, row14, row15, row17, row18}
 use Rattle.records.specs.declared.ItemStep.{ItemStep}
-use Rattle.records.specs.declared.ItemStep.the-variants.{Next, Stop}
+use Rattle.records.specs.declared.ItemStep.the-variants.{Next, Refused}
 
 -- the sums with one item more
 abbrev pub plusItem : Bands → Sums → Item → Sums
@@ -83,13 +83,13 @@ offBalanceCause ws = cond (lacks 1 ws 0) 6 (offBalanceFault (word ws 0) (word ws
 
 -- an item's turn is never over
 abbrev pub itemStep : Bands → Sums → Turn Item → ItemStep
-itemStep bands s over = Stop 0 0
-itemStep bands s (bad number place) = Stop number place
+itemStep bands s over = Refused 0 0
+itemStep bands s (bad number place) = Refused number place
 itemStep bands s (some i zero next) = Next (plusItem bands s i) next
-itemStep bands s (some i (suc number) place) = Stop (suc number) place
+itemStep bands s (some i (suc number) place) = Refused (suc number) place
 
 -- the sums leave room for one item more
-pub record Roomy (s : Sums) : Type 0 where
+pub record SumsRoomy (s : Sums) : Type 0 where
   pub assets : s .assets ≤ 2 ^ 61
   pub deducted : s .deducted ≤ 2 ^ 61
   pub replacement : s .replacement ≤ 2 ^ 61

@@ -20,7 +20,7 @@ ghost use Rattle.rules.specs.Word.{kindOf, sizeOf, word};
 ghost use Rattle.rules.specs.Faults.{assetFault};
 ghost use Rattle.rules.specs.Read.{assetTurn};
 ghost use Rattle.records.specs.Readable.{Readable};
-ghost use Rattle.records.specs.Step.{assetCause, itemStep, Roomy, plusAsset};
+ghost use Rattle.records.specs.Step.{assetCause, itemStep, SumsRoomy, plusAsset};
 
 // The causes 7 to 9 of an asset with these words.
 fn asset_fault(w: u32, carrying: u32, provision: u32, deducted: u32) -> u32
@@ -46,7 +46,7 @@ fn asset_fault(w: u32, carrying: u32, provision: u32, deducted: u32) -> u32
 
 // Rows 1 and 2: nothing of a fiduciary asset.
 fn with_asset(mut s: Sums, w: u32, carrying: u32, provision: u32, deducted: u32) -> Sums
-    requires { ⌜ Roomy s × (sizeOf provision + sizeOf deducted ≤ sizeOf carrying) ⌝ }
+    requires { ⌜ SumsRoomy s × (sizeOf provision + sizeOf deducted ≤ sizeOf carrying) ⌝ }
     ensures { λ r. ⌜ r ≡ plusAsset s w carrying provision deducted ⌝ }
 {
     let fiduciary = bit(w, payloads::ASSET_FIDUCIARY);
@@ -69,15 +69,21 @@ pub fn asset_cause(part: &[u32]) -> u32
 }
 
 pub fn asset(part: &[u32], s: Sums, bands: Bands) -> ItemStep
-    requires { ⌜ Readable 1 (now part) × ((kindOf (word (now part) 0) ≡ 2) × Roomy s) ⌝ }
+    requires { ⌜ Readable 1 (now part) × ((kindOf (word (now part) 0) ≡ 2) × SumsRoomy s) ⌝ }
     ensures { λ r. ⌜ r ≡ itemStep bands s (assetTurn (now (part .entry))) ⌝ }
 {
     if lacking(part, 0, amounts::ASSET) {
-        return ItemStep::Stop(causes::WORDS_LACKING, 0);
+        return ItemStep::Refused {
+            number: causes::WORDS_LACKING,
+            place: 0,
+        };
     }
     let fault = asset_fault(part[0], part[1], part[2], part[3]);
     if fault != causes::NONE {
-        return ItemStep::Stop(fault, 0);
+        return ItemStep::Refused {
+            number: fault,
+            place: 0,
+        };
     }
     let sums = with_asset(s, part[0], part[1], part[2], part[3]);
     ItemStep::Next(sums, lengths::ASSET)

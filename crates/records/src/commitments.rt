@@ -18,7 +18,7 @@ ghost use Rattle.rules.specs.Word.{kindOf, word};
 ghost use Rattle.rules.specs.Faults.{offBalanceFault};
 ghost use Rattle.rules.specs.Read.{offBalanceTurn};
 ghost use Rattle.records.specs.Readable.{Readable};
-ghost use Rattle.records.specs.Step.{offBalanceCause, itemStep, Roomy, plusOffBalance};
+ghost use Rattle.records.specs.Step.{offBalanceCause, itemStep, SumsRoomy, plusOffBalance};
 
 // The causes 7 and 8 of an off-balance item with these words: bits 0-3 its class, bits 4-7 one more than the class of the item
 // committed to.
@@ -54,7 +54,7 @@ fn off_balance_fault(w: u32, notional: u32) -> u32
 
 // Rows 17 and 18.
 fn with_off_balance(mut s: Sums, w: u32, notional: u32) -> Sums
-    requires { ⌜ Roomy s ⌝ }
+    requires { ⌜ SumsRoomy s ⌝ }
     ensures { λ r. ⌜ r ≡ plusOffBalance s w notional ⌝ }
 {
     let figure = conversion(
@@ -87,15 +87,21 @@ pub fn off_balance_cause(part: &[u32]) -> u32
 }
 
 pub fn off_balance(part: &[u32], s: Sums, bands: Bands) -> ItemStep
-    requires { ⌜ Readable 1 (now part) × ((kindOf (word (now part) 0) ≡ 10) × Roomy s) ⌝ }
+    requires { ⌜ Readable 1 (now part) × ((kindOf (word (now part) 0) ≡ 10) × SumsRoomy s) ⌝ }
     ensures { λ r. ⌜ r ≡ itemStep bands s (offBalanceTurn (now (part .entry))) ⌝ }
 {
     if lacking(part, 0, amounts::OFF_BALANCE) {
-        return ItemStep::Stop(causes::WORDS_LACKING, 0);
+        return ItemStep::Refused {
+            number: causes::WORDS_LACKING,
+            place: 0,
+        };
     }
     let fault = off_balance_fault(part[0], part[1]);
     if fault != causes::NONE {
-        return ItemStep::Stop(fault, 0);
+        return ItemStep::Refused {
+            number: fault,
+            place: 0,
+        };
     }
     let sums = with_off_balance(s, part[0], part[1]);
     ItemStep::Next(sums, lengths::OFF_BALANCE)

@@ -9,5 +9,5 @@ pub mod presence;
 // fault. Places count from the item's head.
 pub enum ItemStep {
     Next(Sums, usize),
-    Stop(u32, usize),
+    Refused { number: u32, place: usize },
 }

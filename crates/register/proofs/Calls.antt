@@ -35,24 +35,24 @@ use Rattle.rules.specs.Register.{blank, entryOf, unfitFor}
 use Rattle.rules.proofs.Entry as TE
 use Rattle.rules.proofs.Entry.Laws as TE′
 use Rattle.rules.proofs.Draw as TD
-use Rattle.reading.specs.declared.Reading.{Reading}
+use Rattle.reading.specs.declared.Admission.{Admission}
 use Rattle.reading.specs.declared.cursor.Cursor.{Cursor}
-use Rattle.reading.specs.declared.cursor.Found.{Found}
-use Rattle.reading.specs.Ahead.{ahead, foundAhead, startCursor, Sound, SoundFound}
-use Rattle.reading.proofs.Reading as TR
-use Rattle.reading.proofs.Reading.Laws as TR′
+use Rattle.reading.specs.declared.cursor.NextCover.{NextCover}
+use Rattle.reading.specs.Ahead.{ahead, nextAhead, newCursor, Sound, SoundNext}
+use Rattle.reading.proofs.Admission as TR
+use Rattle.reading.proofs.Admission.Laws as TR′
 use Rattle.reading.proofs.cursor.Cursor as TC
 use Rattle.reading.proofs.cursor.Cursor.Laws as TC′
-use Rattle.reading.proofs.cursor.Found as TF
-use Rattle.reading.proofs.cursor.Found.Laws as TF′
-use Rattle.reading.proofs.cursor.start as start′
+use Rattle.reading.proofs.cursor.NextCover as TF
+use Rattle.reading.proofs.cursor.NextCover.Laws as TF′
+use Rattle.reading.proofs.cursor.Cursor.new as start′
 use Rattle.reading.proofs.cursor.next_draw as next-draw′
 use Rattle.register.specs.declared.entries.Drawn.{Drawn}
 use Rattle.register.specs.Loading.{protectionPlace, loadedFrom}
 use Rattle.register.specs.Draws.{drawnDown, faultIn, drawnIn, readingAfter, leftAfter}
 use Rattle.register.proofs.entries.Drawn as TA
 use Rattle.register.proofs.entries.Drawn.Laws as TA′
-use Rattle.register.proofs.Rows.{Known, told, known, told-case, known-case, R, mach, IsEntry, mach-draw, IsDraw, mach-drawn, mach-cursor, IsCursor, mach-found, IsFound, mach-reading, IsReading, makes, draw-makes, cursor-makes}
+use Rattle.register.proofs.Rows.{Known, told, known, told-case, known-case, R, mach, IsEntry, mach-draw, IsDraw, mach-drawn, mach-cursor, IsCursor, mach-next-cover, IsNextCover, mach-admission, IsAdmission, makes, draw-makes, cursor-makes}
 use Rattle.register.proofs.Relend.{slice, Claim}
 use Rattle.register.proofs.Lent.{mut-own, shr-own, left, left-shared, left-lent, left-both, Call, calls-plain, calls-lent, calls-passed, calls-both}
 use Rattle.register.proofs.book.entry_from as entry-from′
@@ -200,10 +200,10 @@ module _ {M : Type 1} {𝓤 : URA M} {H : Heap 𝓤} {A : Atoms 𝓤} {K : Type 
       os (λ w r is. regoal t after (told TA.the-type TA′.the-laws r w (is .0)) refl $ k r (known TA.the-type TA′.the-laws r w (is .0)) (is .1))
 
   pub calls-start : Call K W E xs (Start 𝓤 H A mem run) G after → Opds K W (raw (Start 𝓤 H A mem run .pre ((tt, tt, tt, tt, tt), tt)) ∷ Γ) E xs []
-      → (IsCursor startCursor → Seq K W Γ (after (mach-cursor startCursor))) → Seq K W Γ G
+      → (IsCursor newCursor → Seq K W Γ (after (mach-cursor newCursor))) → Seq K W Γ G
   calls-start cl os k =
       calls-plain {H = H} {A = A} {W = W} t (Start 𝓤 H A mem run) cl ((tt, tt, tt, tt, tt), tt) (qed W [] ∵ nothing ! $ nothing ! $ nothing ! $ join ! $ join ! $ done !)
-      (λ r w. Is TC.the-row r (w ∷ []) × (r ≡ startCursor)) (λ w. left 𝓤 H A W TC.the-row (Unit {0}) (λ _. ftrue) (λ r. r ≡ startCursor) w)
+      (λ r w. Is TC.the-row r (w ∷ []) × (r ≡ newCursor)) (λ w. left 𝓤 H A W TC.the-row (Unit {0}) (λ _. ftrue) (λ r. r ≡ newCursor) w)
       os (λ w r is. regoal t after (told TC.the-type TC′.the-laws r w (is .0) ∙ ap mach-cursor (is .1)) refl $ k (subst IsCursor (is .1) (known TC.the-type TC′.the-laws r w (is .0))))
 
   -- ---- over the book
@@ -220,12 +220,12 @@ module _ {M : Type 1} {𝓤 : URA M} {H : Heap 𝓤} {A : Atoms 𝓤} {K : Type 
 
   pub calls-next-draw : Call K W E xs (NextDraw 𝓤 H A mem run) G after → (ℓ : Lifetime) {κ : Lft} {p : Share} {γ : GName} {b o m : ℕ} (ws : List ℕ) (c : Cursor) → IsCursor c → Sound ws c
       → Opds K W (raw (NextDraw 𝓤 H A mem run .pre (to-next-draw 𝓤 H A mem run W κ p b o γ m ws c)) ∷ ‵ (shr-own u32 ℓ κ γ b o m ws) ∷ Γ) E xs (sliceVal (b, o) m ∷ mach-cursor c ∷ [])
-      → ((r : Found) → IsFound r → (ahead ws c ≡ foundAhead ws r) × SoundFound ws r → Seq K W (‵ (shr-own u32 ℓ κ γ b o m ws) ∷ ‵ (flft κ p) ∷ Γ) (after (mach-found r)))
+      → ((r : NextCover) → IsNextCover r → (ahead ws c ≡ nextAhead ws r) × SoundNext ws r → Seq K W (‵ (shr-own u32 ℓ κ γ b o m ws) ∷ ‵ (flft κ p) ∷ Γ) (after (mach-next-cover r)))
       → Seq K W (‵ (shr-own u32 ℓ κ γ b o m ws) ∷ ‵ (flft κ p) ∷ Γ) G
   calls-next-draw cl ℓ {κ} {p} {γ} {b} {o} {m} ws c c-is asked os k =
       calls-passed {H = H} {A = A} {W = W} t (NextDraw 𝓤 H A mem run) cl u32 ℓ ws (to-next-draw 𝓤 H A mem run W κ p b o γ m ws c) (next-draw-pre 𝓤 H A mem run W κ p b o γ m ws c c-is asked)
-      (λ r w. Is TF.the-row r (w ∷ []) × ((ahead ws c ≡ foundAhead ws r) × SoundFound ws r))
-      (λ w. left-shared 𝓤 H A W TF.the-row κ p (Lasts next-draw′.ended (κ, tt) (slice b o γ ws, (c, tt))) (λ _. fsep ftrue (fsep ftrue ftrue)) (λ r. (ahead ws c ≡ foundAhead ws r) × SoundFound ws r) w)
+      (λ r w. Is TF.the-row r (w ∷ []) × ((ahead ws c ≡ nextAhead ws r) × SoundNext ws r))
+      (λ w. left-shared 𝓤 H A W TF.the-row κ p (Lasts next-draw′.ended (κ, tt) (slice b o γ ws, (c, tt))) (λ _. fsep ftrue (fsep ftrue ftrue)) (λ r. (ahead ws c ≡ nextAhead ws r) × SoundNext ws r) w)
       os (λ w r is. regoal t after (told TF.the-type TF′.the-laws r w (is .0)) refl $ k r (known TF.the-type TF′.the-laws r w (is .0)) (is .1))
 
   -- ---- over the register
@@ -281,8 +281,8 @@ module _ {M : Type 1} {𝓤 : URA M} {H : Heap 𝓤} {A : Atoms 𝓤} {K : Type 
   pub calls-settle : Call K W E xs (Settle 𝓤 H A mem run) G after → (ℓ : Lifetime) {κ : Lft} {p : Share} {γ : GName} {b o n : ℕ} (ys : List Entry) → length ys ≡ n → Room R n
       → (ℓ₀ : Lifetime) {κ₀ : Lft} {p₀ : Share} {γ₀ : GName} {b₀ o₀ m : ℕ} (ws : List ℕ) (i : ℕ) (i-fits : i < 2 ^ 64) → Readable firstRecord ws × ((i ≤ 4096) × (i ≤ length ys))
       → ((ν : ℕ) (δ : GName) → Opds K W (raw (Settle 𝓤 H A mem run .pre (to-settle 𝓤 H A mem run W b o n ys i i-fits κ₀ p₀ b₀ o₀ γ₀ m ws ν δ)) ∷ ‵ (Claim R κ (ν ∷ []) p γ b o δ ys) ∷ ‵ (shr-own u32 ℓ₀ κ₀ γ₀ b₀ o₀ m ws) ∷ Γ) E xs (sliceVal (b₀, o₀) m ∷ sliceVal (b, o) n ∷ vint w64 i ∷ []))
-      → ((r : Reading) (zs : List Entry) → IsReading r → length zs ≡ n → r ≡ readingAfter ws i → zs ≡ leftAfter ws i ++ drop i ys
-      → Seq K W (‵ (mut-own R ℓ κ γ b o n zs) ∷ ‵ (flft κ p) ∷ ‵ (shr-own u32 ℓ₀ κ₀ γ₀ b₀ o₀ m ws) ∷ ‵ (flft κ₀ p₀) ∷ Γ) (after (mach-reading r)))
+      → ((r : Admission) (zs : List Entry) → IsAdmission r → length zs ≡ n → r ≡ readingAfter ws i → zs ≡ leftAfter ws i ++ drop i ys
+      → Seq K W (‵ (mut-own R ℓ κ γ b o n zs) ∷ ‵ (flft κ p) ∷ ‵ (shr-own u32 ℓ₀ κ₀ γ₀ b₀ o₀ m ws) ∷ ‵ (flft κ₀ p₀) ∷ Γ) (after (mach-admission r)))
       → Seq K W (‵ (mut-own R ℓ κ γ b o n ys) ∷ ‵ (flft κ p) ∷ ‵ (shr-own u32 ℓ₀ κ₀ γ₀ b₀ o₀ m ws) ∷ ‵ (flft κ₀ p₀) ∷ Γ) G
   calls-settle cl ℓ {κ} {p} {γ} {b} {o} {n} ys len room ℓ₀ {κ₀} {p₀} {γ₀} {b₀} {o₀} {m} ws i i-fits asked os k =
       calls-both {H = H} {A = A} {W = W} t (Settle 𝓤 H A mem run) cl R ℓ ys len room u32 ℓ₀ ws (to-settle 𝓤 H A mem run W b o n ys i i-fits κ₀ p₀ b₀ o₀ γ₀ m ws) (settle-pre 𝓤 H A mem run W b o n ys i i-fits κ₀ p₀ b₀ o₀ γ₀ m ws asked)

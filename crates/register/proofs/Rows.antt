@@ -26,16 +26,16 @@ use Rattle.rules.proofs.Entry as TE
 use Rattle.rules.proofs.Entry.Laws as TE′
 use Rattle.rules.proofs.Draw as TD
 use Rattle.rules.proofs.Draw.Laws as TD′
-use Rattle.reading.specs.declared.Reading.{Reading}
-use Rattle.reading.specs.declared.Reading.the-variants.{Fault}
+use Rattle.reading.specs.declared.Admission.{Admission}
+use Rattle.reading.specs.declared.Admission.the-variants.{Refused}
 use Rattle.reading.specs.declared.cursor.Cursor.{Cursor}
-use Rattle.reading.specs.declared.cursor.Found.{Found}
-use Rattle.reading.proofs.Reading as TR
-use Rattle.reading.proofs.Reading.Laws as TR′
+use Rattle.reading.specs.declared.cursor.NextCover.{NextCover}
+use Rattle.reading.proofs.Admission as TR
+use Rattle.reading.proofs.Admission.Laws as TR′
 use Rattle.reading.proofs.cursor.Cursor as TC
 use Rattle.reading.proofs.cursor.Cursor.Laws as TC′
-use Rattle.reading.proofs.cursor.Found as TF
-use Rattle.reading.proofs.cursor.Found.Laws as TF′
+use Rattle.reading.proofs.cursor.NextCover as TF
+use Rattle.reading.proofs.cursor.NextCover.Laws as TF′
 use Rattle.register.specs.declared.entries.Drawn.{Drawn}
 use Rattle.register.proofs.entries.Drawn as TA
 use Rattle.register.proofs.entries.Drawn.Laws as TA′
@@ -95,30 +95,30 @@ mach-cursor = LL.val TC.the-type TC′.the-laws
 abbrev pub IsCursor : Cursor → Type 0
 IsCursor = Known TC.the-type TC′.the-laws
 
-abbrev pub mach-found : Found → Val
-mach-found = LL.val TF.the-type TF′.the-laws
+abbrev pub mach-next-cover : NextCover → Val
+mach-next-cover = LL.val TF.the-type TF′.the-laws
 
-abbrev pub IsFound : Found → Type 0
-IsFound = Known TF.the-type TF′.the-laws
+abbrev pub IsNextCover : NextCover → Type 0
+IsNextCover = Known TF.the-type TF′.the-laws
 
-abbrev pub mach-reading : Reading → Val
-mach-reading = LE.val TR.the-type TR′.the-laws
+abbrev pub mach-admission : Admission → Val
+mach-admission = LE.val TR.the-type TR′.the-laws
 
-abbrev pub IsReading : Reading → Type 0
-IsReading = KnownCase TR.the-type TR′.the-laws
+abbrev pub IsAdmission : Admission → Type 0
+IsAdmission = KnownCase TR.the-type TR′.the-laws
 
-pub is-fault : (number place : ℕ) → number < 2 ^ 32 → place < 2 ^ 64 → IsReading (Fault number place)
-is-fault number place a b = LE.owes TR.the-type TR′.the-laws (Fault number place) ((refl, a), ((refl, b), tt))
+pub is-refused : (number place : ℕ) → number < 2 ^ 32 → place < 2 ^ 64 → IsAdmission (Refused number place)
+is-refused number place a b = LE.owes TR.the-type TR′.the-laws (Refused number place) ((refl, a), ((refl, b), tt))
 
 -- the parts of what is known
-pub its-draw : (f : Found) → IsFound f → IsDraw (f .draw)
+pub its-draw : (f : NextCover) → IsNextCover f → IsDraw (f .draw)
 its-draw f g = LL.owed TF.the-type TF′.the-laws f _ g .1 .0
 
-pub its-cursor : (f : Found) → IsFound f → IsCursor (f .cursor)
+pub its-cursor : (f : NextCover) → IsNextCover f → IsCursor (f .cursor)
 its-cursor f g = LL.owed TF.the-type TF′.the-laws f _ g .1 .1 .0
 
-pub its-reading : (f : Found) → IsFound f → IsReading (f .reading)
-its-reading f g = LL.owed TF.the-type TF′.the-laws f _ g .1 .1 .1 .0
+pub its-admission : (f : NextCover) → IsNextCover f → IsAdmission (f .reading)
+its-admission f g = LL.owed TF.the-type TF′.the-laws f _ g .1 .1 .1 .0
 
 pub its-place : (d : Draw) → IsDraw d → d .at < 2 ^ 64
 its-place d g = LL.owed TD.the-type TD′.the-laws d _ g .0 .1
@@ -144,8 +144,8 @@ module _ {M : Type 1} (𝓤 : URA M) (H : Heap 𝓤) (A : Atoms 𝓤) where
   pub cursor-makes : Makes 𝓤 H A TC.the-row (Is TC.the-row)
   cursor-makes = LL.makes TC.the-type TC′.the-plain 𝓤 H A
 
-  pub reading-makes : Makes 𝓤 H A TR.the-row (Is TR.the-row)
-  reading-makes = LE.makes TR.the-type TR′.the-plain 𝓤 H A
+  pub admission-makes : Makes 𝓤 H A TR.the-row (Is TR.the-row)
+  admission-makes = LE.makes TR.the-type TR′.the-plain 𝓤 H A
 
   -- each may be stored
   module _ (W : Given 𝓤 H A) where
@@ -158,8 +158,8 @@ module _ {M : Type 1} (𝓤 : URA M) (H : Heap 𝓤) (A : Atoms 𝓤) where
     pub typed-cursor : (c : Cursor) → IsCursor c → Holds (hasTy TC′.mir (mach-cursor c)) × WT (mach-cursor c)
     typed-cursor c g = LL.lawful TC.the-type TC′.the-laws 𝓤 H A W .typed c _ g .0
 
-    pub typed-found : (f : Found) → IsFound f → Holds (hasTy TF′.mir (mach-found f)) × WT (mach-found f)
-    typed-found f g = LL.lawful TF.the-type TF′.the-laws 𝓤 H A W .typed f _ g .0
+    pub typed-next-cover : (f : NextCover) → IsNextCover f → Holds (hasTy TF′.mir (mach-next-cover f)) × WT (mach-next-cover f)
+    typed-next-cover f g = LL.lawful TF.the-type TF′.the-laws 𝓤 H A W .typed f _ g .0
 
-    pub typed-reading : (r : Reading) → IsReading r → Holds (hasTy TR′.mir (mach-reading r)) × WT (mach-reading r)
-    typed-reading r g = LE.lawful TR.the-type TR′.the-laws 𝓤 H A W tt .typed r _ g .0
+    pub typed-admission : (r : Admission) → IsAdmission r → Holds (hasTy TR′.mir (mach-admission r)) × WT (mach-admission r)
+    typed-admission r g = LE.lawful TR.the-type TR′.the-laws 𝓤 H A W tt .typed r _ g .0

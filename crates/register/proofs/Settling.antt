@@ -14,11 +14,11 @@ use Rattle.rules.specs.declared.Draw.{Draw}
 use Rattle.rules.specs.declared.Entry.{Entry}
 use Rattle.rules.specs.Faults.{cause}
 use Rattle.rules.specs.Register.{blank, unfitFor, drawFault, drawn, ifFit, settle}
-use Rattle.reading.specs.declared.Reading.{Reading}
-use Rattle.reading.specs.declared.Reading.the-variants.{Fault}
+use Rattle.reading.specs.declared.Admission.{Admission}
+use Rattle.reading.specs.declared.Admission.the-variants.{Refused}
 use Rattle.reading.specs.declared.cursor.Cursor.{Cursor}
-use Rattle.reading.specs.declared.cursor.Found.{Found}
-use Rattle.reading.specs.Ahead.{Ahead, endsAt, after, ahead, foundAhead}
+use Rattle.reading.specs.declared.cursor.NextCover.{NextCover}
+use Rattle.reading.specs.Ahead.{Ahead, endsAt, after, ahead, nextAhead}
 use Rattle.register.specs.Draws.{drawnDown, faultIn, drawnIn, firstFault, leftBy}
 
 -- ---- one draw
@@ -61,21 +61,21 @@ module _ (b : ℕ) (es rest : List Entry) (len : length es ≡ b) (d : Draw) whe
 -- ---- all draws: what is answered and what is left, from some entries on
 
 abbrev pub Ends : Type 0
-Ends = Reading × List Entry
+Ends = Admission × List Entry
 
 unfoldable pub comesTo : List Entry → Ahead → Ends
 comesTo es a = (firstFault (a .reading) (settle es (a .draws)), leftBy es (a .draws))
 
-pub ends : (es : List Entry) (r : Reading) → comesTo es (endsAt r) ≡ (r, es)
+pub ends : (es : List Entry) (r : Admission) → comesTo es (endsAt r) ≡ (r, es)
 unfolding comesTo settle leftBy
 ends es r = refl
 
 module _ (es : List Entry) (d : Draw) (a : Ahead) where
-  pub refuses : (drawFault es d ≡ 0 → ⊥) → comesTo es (after (d ∷ []) a) ≡ (Fault (drawFault es d) (d .at), es)
+  pub refuses : (drawFault es d ≡ 0 → ⊥) → comesTo es (after (d ∷ []) a) ≡ (Refused (drawFault es d) (d .at), es)
   unfolding comesTo settle leftBy
   refuses f = rw (ne-eqb (drawFault es d) 0 f) (by-number (drawFault es d) f)
     where
-      by-number : (n : ℕ) → (n ≡ 0 → ⊥) → _≡_ {A = Ends} (firstFault (a .reading) (ifFit n (d .at) (settle (drawn es d) (a .draws))), es) (Fault n (d .at), es)
+      by-number : (n : ℕ) → (n ≡ 0 → ⊥) → _≡_ {A = Ends} (firstFault (a .reading) (ifFit n (d .at) (settle (drawn es d) (a .draws))), es) (Refused n (d .at), es)
       by-number zero f = absurd (f refl)
       by-number (suc n) f = refl
 
@@ -85,7 +85,7 @@ module _ (es : List Entry) (d : Draw) (a : Ahead) where
 
 -- ---- f is what is found from the cursor c on
 
-module _ (ws : List ℕ) (c : Cursor) (f : Found) (is : ahead ws c ≡ foundAhead ws f) where
+module _ (ws : List ℕ) (c : Cursor) (f : NextCover) (is : ahead ws c ≡ nextAhead ws f) where
   pub found : Holds (f .some) → ahead ws c ≡ after (f .draw ∷ []) (ahead ws (f .cursor))
   found h = is ∙ by-some (f .some) h
     where

@@ -5,12 +5,12 @@ use mathlib.Core.Bool.{true≢false}
 use mathlib.Core.List.{List}
 use Rattle.rules.specs.Read.{firstRecord}
 use Rattle.records.specs.Readable.{Readable}
-use Rattle.reading.specs.Ahead.{recordsAhead, ahead, startCursor, Sound}
+use Rattle.reading.specs.Ahead.{recordsAhead, ahead, newCursor, Sound}
 
 -- all of its records lie ahead
-pub start-ahead : (ws : List ℕ) → ahead ws startCursor ≡ recordsAhead ws
+pub start-ahead : (ws : List ℕ) → ahead ws newCursor ≡ recordsAhead ws
 unfolding ahead
 start-ahead ws = refl
 
-pub start-sound : (ws : List ℕ) → Readable firstRecord ws → Sound ws startCursor
-start-sound ws r = record { readable = r; fair = λ e. absurd (true≢false (sym e)); set = λ e. absurd (true≢false (sym e)) }
+pub start-sound : (ws : List ℕ) → Readable firstRecord ws → Sound ws newCursor
+start-sound ws r = record { readable = r; sums-up-to = λ e. absurd (true≢false (sym e)); set = λ e. absurd (true≢false (sym e)) }

@@ -8,8 +8,8 @@ use Rattle.rules.specs.declared.Draw.{Draw}
 use Rattle.rules.specs.declared.Entry.{Entry}
 use Rattle.rules.specs.Faults.{cause}
 use Rattle.rules.specs.Register.{blank, unfitFor, drawFault, drawnFrom, drawn, Settled, unfit, settled, settle}
-use Rattle.reading.specs.declared.Reading.{Reading}
-use Rattle.reading.specs.declared.Reading.the-variants.{Fault}
+use Rattle.reading.specs.declared.Admission.{Admission}
+use Rattle.reading.specs.declared.Admission.the-variants.{Refused}
 use Rattle.reading.specs.Ahead.{recordsAhead}
 use Rattle.register.specs.Loading.{loadedFrom}
 
@@ -31,8 +31,8 @@ drawnIn b entries d =
 -- ---- all draws
 
 -- "the first faulty record": a cover that does not fit stands before the place at which the reading ends
-abbrev pub firstFault : Reading → Settled → Reading
-firstFault r (unfit number place) = Fault number place
+abbrev pub firstFault : Admission → Settled → Admission
+firstFault r (unfit number place) = Refused number place
 firstFault r (settled entries) = r
 
 -- the entries after the draws before the first that does not fit
@@ -41,7 +41,7 @@ leftBy entries [] = entries
 leftBy entries (d ∷ ds) = cond (eqb (drawFault entries d) 0) (leftBy (drawn entries d) ds) entries
 
 -- those of a book with b protections
-unfoldable pub readingAfter : List ℕ → (b : ℕ) → Reading
+unfoldable pub readingAfter : List ℕ → (b : ℕ) → Admission
 readingAfter ws b = firstFault (recordsAhead ws .reading) (settle (loadedFrom ws b 0) (recordsAhead ws .draws))
 
 unfoldable pub leftAfter : List ℕ → (b : ℕ) → List Entry

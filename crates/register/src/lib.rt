@@ -7,9 +7,9 @@ mod entries;
 pub use crate::entries::clear;
 use crate::entries::draw;
 use crate::entries::load_all;
-use reading::Reading;
+use reading::Admission;
+use reading::cursor::Cursor;
 use reading::cursor::next_draw;
-use reading::cursor::start;
 use rules::Entry;
 ghost use mathlib.Core.Path.{_≡_};
 ghost use mathlib.Core.List.{_++_};
@@ -21,13 +21,13 @@ ghost use Rattle.register.specs.Draws.{readingAfter, leftAfter};
 
 // Loads the b protections of the book, reads it, and draws every cover. It ends with the first fault, be it of a record by itself or of
 // a cover that does not fit; the draws before it stand.
-pub fn settle(book: &[u32], register: &mut [Entry], b: usize) -> Reading
+pub fn settle(book: &[u32], register: &mut [Entry], b: usize) -> Admission
     requires { ⌜ Readable firstRecord (now book) × ((b ≤ 4096) × (b ≤ length (now register))) ⌝ }
     ensures { λ r. ⌜ (r ≡ readingAfter (now (book .entry)) b)
         × (now (register .exit) ≡ leftAfter (now (book .entry)) b ++ drop b (now (register .entry))) ⌝ }
 {
     load_all(book, register, b);
-    let mut cursor = start();
+    let mut cursor = Cursor::new();
     loop {
         let found = next_draw(book, cursor);
         if !found.some {
@@ -35,7 +35,10 @@ pub fn settle(book: &[u32], register: &mut [Entry], b: usize) -> Reading
         }
         let number = draw(register, b, found.draw);
         if number != causes::NONE {
-            return Reading::Fault(number, found.draw.at);
+            return Admission::Refused {
+                number,
+                place: found.draw.at,
+            };
         }
         cursor = found.cursor;
     }

@@ -14,7 +14,7 @@ use Rattle.rules.specs.Rows.{onBalance, ofDerivativeRows, ofFinancingRows, ofOf
 use Rattle.rules.proofs.Differences.{Difference, of-pos, of-minus, as-difference, same, plus}
 use Rattle.rules.proofs.RatioCases.{tier1-difference}
 use Rattle.theorems.proofs.ExposureSum.{exposure-row-is}
-use Rattle.template.specs.Sections.{Small, countedUp, countedDown, withOnBalance, withDerivatives, withFinancing, withOffBalance, withRatio}
+use Rattle.template.specs.Sections.{SumsFit, countedUp, countedDown, withOnBalance, withDerivatives, withFinancing, withOffBalance, withRatio}
 use Rattle.template.proofs.Reading.{read}
 
 -- a row that a call of `signed` gave
@@ -44,13 +44,13 @@ tier1-is gain loss x y e f = as-difference x y (tier1-difference gain loss) (ome
 
 -- ---- row 21
 
-row21 : (s : Sums) → Small s → exposureRow s ≡ pos (countedUp s - countedDown s)
+row21 : (s : Sums) → SumsFit s → exposureRow s ≡ pos (countedUp s - countedDown s)
 row21 s h = same (exposure-row-is s) (as-difference _ _ (of-pos (countedUp s - countedDown s)) (omega (arith, h .within)))
 
-pub exposure-is : (s : Sums) → Small s → (up down : ℕ) → up ≡ countedUp s → down ≡ countedDown s → pos (up - down) ≡ exposureRow s
+pub exposure-is : (s : Sums) → SumsFit s → (up down : ℕ) → up ≡ countedUp s → down ≡ countedDown s → pos (up - down) ≡ exposureRow s
 exposure-is s h up down e f = sym (row21 s h ∙ ap pos (omega arith))
 
-pub exposure-small : (s : Sums) → Small s → (exposed : ℕ) → pos exposed ≡ exposureRow s → exposed < 2 ^ 63
+pub exposure-small : (s : Sums) → SumsFit s → (exposed : ℕ) → pos exposed ≡ exposureRow s → exposed < 2 ^ 63
 exposure-small s h exposed e = omega (arith, ap natAbs (e ∙ row21 s h), h .up)
 
 pub exposed-is : (s : Sums) (exposed : ℕ) → pos exposed ≡ exposureRow s → Difference (exposureRow s) exposed 0

@@ -18,7 +18,7 @@ abbrev pub countedDown : Sums → ℕ
 countedDown s = s .deducted + s .offset + s .exempt + s .covered + s .netted + s .unconverted
 
 -- row 21 is never negative, since no book's sums count down further than up
-pub record Small (s : Sums) : Type 0 where
+pub record SumsFit (s : Sums) : Type 0 where
   pub up : countedUp s ≤ 2 ^ 62
   pub down : countedDown s ≤ 2 ^ 62
   pub within : countedDown s ≤ countedUp s

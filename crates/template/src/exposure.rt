@@ -3,10 +3,10 @@ use rules::Sums;
 ghost use mathlib.Core.Path.{_≡_};
 ghost use lib.IntN.{pos};
 ghost use Rattle.rules.specs.Rows.{exposureRow};
-ghost use Rattle.template.specs.Sections.{Small, countedDown, countedUp};
+ghost use Rattle.template.specs.Sections.{SumsFit, countedDown, countedUp};
 
 pub fn exposure(s: Sums) -> u64
-    requires { ⌜ Small s ⌝ }
+    requires { ⌜ SumsFit s ⌝ }
     ensures { λ r. ⌜ pos r ≡ exposureRow s ⌝ }
 {
     let up = counted_up(s);
@@ -15,7 +15,7 @@ pub fn exposure(s: Sums) -> u64
 }
 
 fn counted_up(s: Sums) -> u64
-    requires { ⌜ Small s ⌝ }
+    requires { ⌜ SumsFit s ⌝ }
     ensures { λ r. ⌜ r ≡ countedUp s ⌝ }
 {
     s.assets
@@ -30,7 +30,7 @@ fn counted_up(s: Sums) -> u64
 }
 
 fn counted_down(s: Sums) -> u64
-    requires { ⌜ Small s ⌝ }
+    requires { ⌜ SumsFit s ⌝ }
     ensures { λ r. ⌜ r ≡ countedDown s ⌝ }
 {
     s.deducted + s.offset + s.exempt + s.covered + s.netted + s.unconverted

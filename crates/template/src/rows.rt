@@ -12,10 +12,10 @@ ghost use Prim.Native.Nat.{_≤_};
 ghost use denote.Ref.{now};
 ghost use lib.ListN.{drop, length};
 ghost use Rattle.rules.specs.Rows.{rowsOf};
-ghost use Rattle.template.specs.Sections.{Small, withDerivatives, withFinancing, withOffBalance, withOnBalance, withRatio};
+ghost use Rattle.template.specs.Sections.{SumsFit, withDerivatives, withFinancing, withOffBalance, withOnBalance, withRatio};
 
 pub fn rows_of(s: Sums, gain: u32, loss: u32) -> [i64; limits::ROWS]
-    requires { ⌜ Small s ⌝ }
+    requires { ⌜ SumsFit s ⌝ }
     ensures { λ r. ⌜ r ≡ rowsOf s gain loss ⌝ }
 {
     let empty = [0i64; limits::ROWS];
@@ -40,7 +40,7 @@ pub fn copy_out(from: [i64; limits::ROWS], to: &mut [i64])
 }
 
 fn on_balance_rows(mut rows: [i64; limits::ROWS], s: Sums) -> [i64; limits::ROWS]
-    requires { ⌜ Small s ⌝ }
+    requires { ⌜ SumsFit s ⌝ }
     ensures { λ r. ⌜ r ≡ withOnBalance rows s ⌝ }
 {
     rows[0] = signed(s.assets, 0);
@@ -50,7 +50,7 @@ fn on_balance_rows(mut rows: [i64; limits::ROWS], s: Sums) -> [i64; limits::ROWS
 }
 
 fn derivative_rows(mut rows: [i64; limits::ROWS], s: Sums) -> [i64; limits::ROWS]
-    requires { ⌜ Small s ⌝ }
+    requires { ⌜ SumsFit s ⌝ }
     ensures { λ r. ⌜ r ≡ withDerivatives rows s ⌝ }
 {
     let up = s.replacement + s.weighted + s.posted + s.written;
@@ -67,7 +67,7 @@ fn derivative_rows(mut rows: [i64; limits::ROWS], s: Sums) -> [i64; limits::ROWS
 }
 
 fn financing_rows(mut rows: [i64; limits::ROWS], s: Sums) -> [i64; limits::ROWS]
-    requires { ⌜ Small s ⌝ }
+    requires { ⌜ SumsFit s ⌝ }
     ensures { λ r. ⌜ r ≡ withFinancing rows s ⌝ }
 {
     let up = s.financed + s.principal + s.agent;
@@ -80,7 +80,7 @@ fn financing_rows(mut rows: [i64; limits::ROWS], s: Sums) -> [i64; limits::ROWS]
 }
 
 fn off_balance_rows(mut rows: [i64; limits::ROWS], s: Sums) -> [i64; limits::ROWS]
-    requires { ⌜ Small s ⌝ }
+    requires { ⌜ SumsFit s ⌝ }
     ensures { λ r. ⌜ r ≡ withOffBalance rows s ⌝ }
 {
     rows[16] = signed(s.committed, 0);
@@ -90,7 +90,7 @@ fn off_balance_rows(mut rows: [i64; limits::ROWS], s: Sums) -> [i64; limits::ROW
 }
 
 fn ratio_rows(mut rows: [i64; limits::ROWS], s: Sums, gain: u32, loss: u32) -> [i64; limits::ROWS]
-    requires { ⌜ Small s ⌝ }
+    requires { ⌜ SumsFit s ⌝ }
     ensures { λ r. ⌜ r ≡ withRatio rows s gain loss ⌝ }
 {
     let exposed = exposure(s);

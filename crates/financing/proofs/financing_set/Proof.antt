@@ -1,6 +1,6 @@
 -- Each return is at a way that the set's turn goes; the set's sums fit, by the words of the part. Assumes nothing.
 use borrow.Author.Needs.{needs}
-use Rattle.financing.proofs.SetSteps.{set-stop, set-broken, set-light, set-whole}
+use Rattle.financing.proofs.SetSteps.{set-faulty, set-refused, set-fits, set-whole}
 use Rattle.financing.proofs.financing_set.Statement.{statement}
 use Rattle.financing.proofs.financing_set.Tie as tie
 
@@ -16,7 +16,7 @@ returns c =
     let p = c .before .before .before .before .pre in
     let financing-set-fault = c .before .financing-set-fault in
     let if1 = c .if1 in
-    set-stop (a .bands) (a .s) _ (p .0) (p .1 .0) _ (financing-set-fault .ensures) (if1 .taken)
+    set-faulty (a .bands) (a .s) _ (p .0) (p .1 .0) _ (financing-set-fault .ensures) (if1 .taken)
 
 weigh-requires : tie.Need-weigh-requires
 weigh-requires c κs = search needs
@@ -33,7 +33,7 @@ with-set-requires c κs =
     let weigh = c .before .before .before .weigh in
     let t = c .before .t in (
       p .1 .1,
-      set-light (a .bands) (a .s) _ (p .0) (p .1 .0) _ (financing-set-fault .ensures) (if1 .left) _ (weigh .ensures) _ _ (t .given .1),
+      set-fits (a .bands) (a .s) _ (p .0) (p .1 .0) _ (financing-set-fault .ensures) (if1 .left) _ (weigh .ensures) _ _ (t .given .1),
     )
 
 enum-known-number : tie.Need-enum-known-number
@@ -59,7 +59,7 @@ returns-3 c =
     let if1 = c .before .before .before .before .if1 in
     let weigh = c .before .before .before .weigh in
     let number = c .before .number in
-    set-broken (a .bands) (a .s) _ (p .0) (p .1 .0) _ (financing-set-fault .ensures) (if1 .left) _ (weigh .ensures) _ _ (number .given .1)
+    set-refused (a .bands) (a .s) _ (p .0) (p .1 .0) _ (financing-set-fault .ensures) (if1 .left) _ (weigh .ensures) _ _ (number .given .1)
 
 pub financing-set-spec : {M : Type 1} → statement M
 financing-set-spec =

@@ -46,24 +46,24 @@ use Rattle.rules.specs.Read.{firstRecord}
 use Rattle.records.specs.Readable.{Readable}
 use Rattle.rules.specs.Register.{drawFault, drawn}
 use Rattle.rules.proofs.Draw.Laws as TD′
-use Rattle.reading.specs.declared.Reading.{Reading}
-use Rattle.reading.specs.declared.Reading.the-variants.{Fault}
+use Rattle.reading.specs.declared.Admission.{Admission}
+use Rattle.reading.specs.declared.Admission.the-variants.{Refused}
 use Rattle.reading.specs.declared.cursor.Cursor.{Cursor}
-use Rattle.reading.specs.declared.cursor.Found.{Found}
-use Rattle.reading.specs.Ahead.{recordsAhead, ahead, foundAhead, startCursor, Sound, SoundFound}
-use Rattle.reading.proofs.Reading as TR
-use Rattle.reading.proofs.Reading.Laws as TR′
+use Rattle.reading.specs.declared.cursor.NextCover.{NextCover}
+use Rattle.reading.specs.Ahead.{recordsAhead, ahead, nextAhead, newCursor, Sound, SoundNext}
+use Rattle.reading.proofs.Admission as TR
+use Rattle.reading.proofs.Admission.Laws as TR′
 use Rattle.reading.proofs.cursor.Cursor.Laws as TC′
-use Rattle.reading.proofs.cursor.Found.Laws as TF′
-use Rattle.reading.proofs.cursor.start.Symbol as start-def
-use Rattle.reading.proofs.cursor.start.Symbol.{name as #start}
-use Rattle.reading.proofs.cursor.start.Met as start-thm
+use Rattle.reading.proofs.cursor.NextCover.Laws as TF′
+use Rattle.reading.proofs.cursor.Cursor.new.Symbol as start-def
+use Rattle.reading.proofs.cursor.Cursor.new.Symbol.{name as #start}
+use Rattle.reading.proofs.cursor.Cursor.new.Met as start-thm
 use Rattle.reading.proofs.cursor.next_draw.Symbol as next-def
 use Rattle.reading.proofs.cursor.next_draw.Symbol.{name as #next-draw}
 use Rattle.reading.proofs.cursor.next_draw.Met as next-thm
 use Rattle.register.specs.Loading.{loadedFrom}
 use Rattle.register.specs.Draws.{faultIn, drawnIn, readingAfter, leftAfter}
-use Rattle.register.proofs.Rows.{R, mach-cursor, IsCursor, mach-found, IsFound, mach-reading, IsReading, is-fault, its-draw, its-cursor, its-reading, its-place, reading-makes, typed-cursor, typed-found, typed-reading}
+use Rattle.register.proofs.Rows.{R, mach-cursor, IsCursor, mach-next-cover, IsNextCover, mach-admission, IsAdmission, is-refused, its-draw, its-cursor, its-admission, its-place, admission-makes, typed-cursor, typed-next-cover, typed-admission}
 use Rattle.register.proofs.Relend.{slice}
 use Rattle.register.proofs.Lent.{tl, enters, mut-own, shr-own, mid, less, less-wf, twice-not, holds-true}
 use Rattle.register.proofs.Loaded.{loaded-length}
@@ -161,20 +161,20 @@ module _ {M : Type 1} (𝓤 : URA M) (H : Heap 𝓤) (A : Atoms 𝓤) (W : Given
   with-length es len = simp (length-append, len, length-drop) (omega arith)
 
   -- what the contract says of the answer and of the register at exit
-  abbrev Says : Reading → List Entry → Type 0
+  abbrev Says : Admission → List Entry → Type 0
   Says r zs = (r ≡ readingAfter ws k) × (zs ≡ leftAfter ws k ++ dropL k ys)
 
-  comes : (r : Reading) (es : List Entry) → _≡_ {A = Ends} (r, es) All → Says r (with es)
+  comes : (r : Admission) (es : List Entry) → _≡_ {A = Ends} (r, es) All → Says r (with es)
   unfolding comesTo readingAfter leftAfter
   comes r es e = (ap (λ (x : Ends). x .0) e, ap (λ (x : Ends). with (x .1)) e)
 
-  exits : (r : Reading) (zs : List Entry) → IsReading r → length zs ≡ n → Says r zs → ent 𝓤 (⋆ 𝓤 H A (reg zs ∷ ‵ (flft κ₁ q₁) ∷ book ∷ ‵ (flft κ₀ q₀) ∷ [])) (Post (mach-reading r))
+  exits : (r : Admission) (zs : List Entry) → IsAdmission r → length zs ≡ n → Says r zs → ent 𝓤 (⋆ 𝓤 H A (reg zs ∷ ‵ (flft κ₁ q₁) ∷ book ∷ ‵ (flft κ₀ q₀) ∷ [])) (Post (mach-admission r))
   exits r zs is len e =
       qed W (reg zs ∷ ‵ (flft κ₁ q₁) ∷ book ∷ ‵ (flft κ₀ q₀) ∷ []) ∵
-      suffices ! _ (ends-at 𝓤 H A settle′.ended stayed (settle′.clauses 𝓤 H A mem run) W (((κ₀, (κ₁, tt)), (q₀, (q₁, tt)), bounds, a, vals), tt) (mach-reading r) r (tt, (zs, (tt, tt))) (tt, (len, (tt, tt)))) $ says ! e $
+      suffices ! _ (ends-at 𝓤 H A settle′.ended stayed (settle′.clauses 𝓤 H A mem run) W (((κ₀, (κ₁, tt)), (q₀, (q₁, tt)), bounds, a, vals), tt) (mach-admission r) r (tt, (zs, (tt, tt))) (tt, (len, (tt, tt)))) $ says ! e $
       nothing ! $ move ! (2 ∷ 0 ∷ []) $ join ! $ move ! (3 ∷ 0 ∷ []) $ join ! $ frame ! $ nothing ! $
       owned ! usize (Is usize) (uint-makes 𝓤 H A W w64) k _ (refl, k-fits) $ fjoin ! $ move ! (1 ∷ 0 ∷ []) $ fjoin ! $ move ! (1 ∷ 0 ∷ []) $ fjoin ! $ frame ! $
-      owned ! TR.the-row (Is TR.the-row) (reading-makes 𝓤 H A) r _ is $ done !
+      owned ! TR.the-row (Is TR.the-row) (admission-makes 𝓤 H A) r _ is $ done !
 
   -- the loop's state
   record At : Type 0 where
@@ -189,7 +189,7 @@ module _ {M : Type 1} (𝓤 : URA M) (H : Heap 𝓤) (A : Atoms 𝓤) (W : Given
   left t = length (ahead ws (t .cursor) .draws)
 
   -- a turn that finds f
-  module _ (t : At) (f : Found) (f-is : IsFound f) (e : (ahead ws (t .cursor) ≡ foundAhead ws f) × SoundFound ws f) where
+  module _ (t : At) (f : NextCover) (f-is : IsNextCover f) (e : (ahead ws (t .cursor) ≡ nextAhead ws f) × SoundNext ws f) where
     -- the number and the register of its draw
     abbrev number : ℕ
     number = faultIn k (with (t .es)) (f .draw)
@@ -211,11 +211,11 @@ module _ {M : Type 1} (𝓤 : URA M) (H : Heap 𝓤) (A : Atoms 𝓤) (W : Given
     not-zero z q = T-not (eqb number 0) z (subst (λ (c : ℕ). Holds (eqb c 0)) (sym q) tt)
 
     -- where it does not fit it ends too, and the entries stay
-    refused : Holds (f .some) → Holds (not (eqb number 0)) → Says (Fault number (f .draw .at)) after
+    refused : Holds (f .some) → Holds (not (eqb number 0)) → Says (Refused number (f .draw .at)) after
     refused h z =
         let first-unfit = sym (refuses (t .es) (f .draw) (ahead ws (f .cursor)) (λ q. not-zero z (number-is ∙ q))) ∙ ap (comesTo (t .es)) (sym (found ws (t .cursor) f (e .0) h)) ∙ t .same in
-        let said = comes (Fault (drawFault (t .es) (f .draw)) (f .draw .at)) (t .es) first-unfit in
-        (ap (λ (c : ℕ). Fault c (f .draw .at)) number-is ∙ said .0, unfit-stays k (t .es) (dropL k ys) (t .len) (f .draw) (not-zero z) ∙ said .1)
+        let said = comes (Refused (drawFault (t .es) (f .draw)) (f .draw .at)) (t .es) first-unfit in
+        (ap (λ (c : ℕ). Refused c (f .draw .at)) number-is ∙ said .0, unfit-stays k (t .es) (dropL k ys) (t .len) (f .draw) (not-zero z) ∙ said .1)
 
     fits : Holds (not (not (eqb number 0))) → number ≡ 0
     fits z = eqb→eq number 0 (twice-not (eqb number 0) z)
@@ -256,8 +256,8 @@ module _ {M : Type 1} (𝓤 : URA M) (H : Heap 𝓤) (A : Atoms 𝓤) (W : Given
     Turned t = anyQ (afterTurn 𝓤 H (Below 𝓤 H A (less left) Inv t) (post 𝓤 H Then))
 
     -- a return, from anywhere: the locals are freed
-    leaves : (r : Reading) (zs : List Entry) (c : Cursor) (f : Found) → IsReading r → length zs ≡ n → Says r zs
-        → Sq W (reg zs ∷ ‵ (flft κ₁ q₁) ∷ book ∷ ‵ (flft κ₀ q₀) ∷ ‵ (froom (sliceTy ref) l₁₂ 0) ∷ ‵ (fdies (sliceTy ref) l₁₂) ∷ ‵ (froom ref l₁₁ 0) ∷ ‵ (fdies ref l₁₁) ∷ ‵ (froom tyBool l₁₀ 0) ∷ ‵ (fdies tyBool l₁₀) ∷ ‵ (froom (sliceTy ref) l₉ 0) ∷ ‵ (fdies (sliceTy ref) l₉) ∷ ‵ (froom ref l₈ 0) ∷ ‵ (fdies ref l₈) ∷ ‵ (froom tyUnit l₇ 0) ∷ ‵ (fdies tyUnit l₇) ∷ ‵ (froom half l₆ 0) ∷ ‵ (fdies half l₆) ∷ ‵ (fat fullShare TF′.mir l₅ 0 (mach-found f)) ∷ ‵ (fdies TF′.mir l₅) ∷ ‵ (fat fullShare TC′.mir l₄ 0 (mach-cursor c)) ∷ ‵ (fdies TC′.mir l₄) ∷ ‵ (fat fullShare word l₃ 0 (vint w64 k)) ∷ ‵ (fdies word l₃) ∷ ‵ (fat fullShare param l₂ 0 s) ∷ ‵ (fdies param l₂) ∷ ‵ (fat fullShare book-ty l₁ 0 book-val) ∷ ‵ (fdies book-ty l₁) ∷ ‵ (fat fullShare TR′.mir l₀ 0 (mach-reading r)) ∷ ‵ (fdies TR′.mir l₀) ∷ []) (frees E (prop (Post (mach-reading r))))
+    leaves : (r : Admission) (zs : List Entry) (c : Cursor) (f : NextCover) → IsAdmission r → length zs ≡ n → Says r zs
+        → Sq W (reg zs ∷ ‵ (flft κ₁ q₁) ∷ book ∷ ‵ (flft κ₀ q₀) ∷ ‵ (froom (sliceTy ref) l₁₂ 0) ∷ ‵ (fdies (sliceTy ref) l₁₂) ∷ ‵ (froom ref l₁₁ 0) ∷ ‵ (fdies ref l₁₁) ∷ ‵ (froom tyBool l₁₀ 0) ∷ ‵ (fdies tyBool l₁₀) ∷ ‵ (froom (sliceTy ref) l₉ 0) ∷ ‵ (fdies (sliceTy ref) l₉) ∷ ‵ (froom ref l₈ 0) ∷ ‵ (fdies ref l₈) ∷ ‵ (froom tyUnit l₇ 0) ∷ ‵ (fdies tyUnit l₇) ∷ ‵ (froom half l₆ 0) ∷ ‵ (fdies half l₆) ∷ ‵ (fat fullShare TF′.mir l₅ 0 (mach-next-cover f)) ∷ ‵ (fdies TF′.mir l₅) ∷ ‵ (fat fullShare TC′.mir l₄ 0 (mach-cursor c)) ∷ ‵ (fdies TC′.mir l₄) ∷ ‵ (fat fullShare word l₃ 0 (vint w64 k)) ∷ ‵ (fdies word l₃) ∷ ‵ (fat fullShare param l₂ 0 s) ∷ ‵ (fdies param l₂) ∷ ‵ (fat fullShare book-ty l₁ 0 book-val) ∷ ‵ (fdies book-ty l₁) ∷ ‵ (fat fullShare TR′.mir l₀ 0 (mach-admission r)) ∷ ‵ (fdies TR′.mir l₀) ∷ []) (frees E (prop (Post (mach-admission r))))
     leaves r zs c f is len e =
         forget ! 28 refl $ forget ! 26 refl $ forget ! 24 refl $ forget ! 22 refl $ forget ! 20 refl $ forget ! 18 refl $
         move ! (28 ∷ 29 ∷ []) $ free1 ! $ move ! (26 ∷ 27 ∷ []) $ free1 ! $ move ! (24 ∷ 25 ∷ []) $ free1 ! $ move ! (22 ∷ 23 ∷ []) $ free1 ! $ move ! (20 ∷ 21 ∷ []) $ free1 ! $ move ! (18 ∷ 19 ∷ []) $ free1 ! $ move ! (16 ∷ 17 ∷ []) $ free1 ! $ move ! (14 ∷ 15 ∷ []) $ free1 ! $ move ! (12 ∷ 13 ∷ []) $ free1 ! $ move ! (10 ∷ 11 ∷ []) $ free1 ! $ move ! (8 ∷ 9 ∷ []) $ free1 ! $ move ! (6 ∷ 7 ∷ []) $ free1 ! $ move ! (4 ∷ 5 ∷ []) $ free1 ! $ free0 ! $ by ! (exits r zs is len e)
@@ -267,13 +267,13 @@ module _ {M : Type 1} (𝓤 : URA M) (H : Heap 𝓤) (A : Atoms 𝓤) (W : Given
     turn t =
         -- the book is passed on to `next_draw`
         move ! (2 ∷ 3 ∷ []) $ calls-next-draw ! mem run (mid ! fm (callees .next-draw)) (named 0) ws (t .cursor) (t .cursor-is) (t .sound) (and-then ! (load ! (from ! (stop !)) (look ! 26 refl)) (and-then ! (load ! (from ! (stop !)) (look ! 20 refl)) (no-more !))) (λ f f-is e. move ! (2 ∷ 3 ∷ []) $
-        land ! (from ! (stop !)) (init ! 18 refl (typed-found 𝓤 H A W f f-is)) $
+        land ! (from ! (stop !)) (init ! 18 refl (typed-next-cover 𝓤 H A W f f-is)) $
         assigns ! (un ! (load ! (from ! (fld ! refl (stop !))) (look-in ! 18 (sub ! 0 refl (whole !)))) tt) (from ! (stop !)) (init ! 8 refl (tt, tt)) $
         first ! $ branches ! (load ! (from ! (stop !)) (look ! 8 refl))
         (λ h.  -- no draw is left
-        assigns ! (of-opd ! (load ! (from ! (fld ! refl (stop !))) (look-in ! 18 (sub ! 3 refl (whole !))))) (from ! (stop !)) (init ! 28 refl (typed-reading 𝓤 H A W (f .reading) (its-reading f f-is))) $
+        assigns ! (of-opd ! (load ! (from ! (fld ! refl (stop !))) (look-in ! 18 (sub ! 3 refl (whole !))))) (from ! (stop !)) (init ! 28 refl (typed-admission 𝓤 H A W (f .reading) (its-admission f f-is))) $
         returns-within ! Post refl (look ! 28 refl) $ forget ! 8 refl $
-        leaves (f .reading) (with (t .es)) (t .cursor) f (its-reading f f-is) (with-length (t .es) (t .len)) (ended t f f-is e h))
+        leaves (f .reading) (with (t .es)) (t .cursor) f (its-admission f f-is) (with-length (t .es) (t .len)) (ended t f f-is e h))
         (λ h.  -- the register is lent to `draw`
         skips ! $ exec ! C Λ E draws (Turned t) $
         assigns ! (addr ! (from ! (fld ! refl (hop ! (look-in ! 24 (sub ! 0 refl (whole !))) (stop !))))) (from ! (stop !)) (init ! 6 refl (tt, tt)) $ assigns ! (agg ! (and-then ! (load ! (from ! (stop !)) (look ! 6 refl)) (and-then ! (load ! (from ! (fld ! refl (stop !))) (look-in ! 24 (sub ! 1 refl (whole !)))) (no-more !)))) (from ! (stop !)) (init ! 4 refl (tt, (tt, (record { fits = room .0 }, tt)))) $
@@ -282,10 +282,10 @@ module _ {M : Type 1} (𝓤 : URA M) (H : Heap 𝓤) (A : Atoms 𝓤) (W : Given
         assigns ! (bin ! (load ! (from ! (stop !)) (look ! 16 refl)) (lit ! tt) tt) (from ! (stop !)) (store ! 8 refl (tt, tt)) $
         first ! $ branches ! (load ! (from ! (stop !)) (look ! 8 refl))
         (λ z.  -- it does not fit
-        let r-is = is-fault (number t f f-is e) (f .draw .at) c-fits (place-fits t f f-is e) in
-        assigns ! (agg ! (and-then ! (lit ! tt) (and-then ! (load ! (from ! (stop !)) (look ! 16 refl)) (and-then ! (load ! (from ! (fld ! {τ = TD′.mir} {d = 8} refl (fld ! {τ = word} {d = 0} refl (stop !)))) (look-in ! 18 (sub ! 0 {τ = word} {d = 0} refl (sub ! 1 {τ = TD′.mir} {d = 8} refl (whole !))))) (no-more !))))) (from ! (stop !)) (init ! 28 refl (typed-reading 𝓤 H A W (Fault (number t f f-is e) (f .draw .at)) r-is)) $
+        let r-is = is-refused (number t f f-is e) (f .draw .at) c-fits (place-fits t f f-is e) in
+        assigns ! (agg ! (and-then ! (lit ! tt) (and-then ! (load ! (from ! (stop !)) (look ! 16 refl)) (and-then ! (load ! (from ! (fld ! {τ = TD′.mir} {d = 8} refl (fld ! {τ = word} {d = 0} refl (stop !)))) (look-in ! 18 (sub ! 0 {τ = word} {d = 0} refl (sub ! 1 {τ = TD′.mir} {d = 8} refl (whole !))))) (no-more !))))) (from ! (stop !)) (init ! 28 refl (typed-admission 𝓤 H A W (Refused (number t f f-is e) (f .draw .at)) r-is)) $
         returns-within ! Post refl (look ! 28 refl) $ forget ! 16 refl $ forget ! 8 refl $ forget ! 6 refl $ forget ! 4 refl $
-        leaves (Fault (number t f f-is e) (f .draw .at)) (after t f f-is e) (t .cursor) f r-is z-len (refused t f f-is e (twice-not (f .some) h) z))
+        leaves (Refused (number t f f-is e) (f .draw .at)) (after t f f-is e) (t .cursor) f r-is z-len (refused t f f-is e (twice-not (f .some) h) z))
         (λ z.  -- it fits
         skips ! $ exec ! C Λ E goes-next (Turned t) $ rewrite ! 0 reg (same-entries k (t .es) (dropL k ys) (t .len) (f .draw) (fits t f f-is e z)) refl $
         assigns-last ! (of-opd ! (load ! (from ! (fld ! refl (stop !))) (look-in ! 18 (sub ! 2 refl (whole !))))) (from ! (stop !)) (store ! 20 refl (typed-cursor 𝓤 H A W (f .cursor) (its-cursor f f-is))) $
@@ -301,13 +301,13 @@ module _ {M : Type 1} (𝓤 : URA M) (H : Heap 𝓤) (A : Atoms 𝓤) (W : Given
         calls-load-all ! mem run (mid ! fm (callees .load-all)) (named 1) ys refl room (named 0) ws k k-fits (asked .1) (λ ν δ. and-then ! (load ! (from ! (stop !)) (look ! 25 refl)) (and-then ! (load ! (from ! (stop !)) (look ! 9 refl)) (and-then ! (load ! (from ! (stop !)) (look ! 21 refl)) (no-more !)))) (λ z-len.
         land ! (from ! (stop !)) (init ! 14 refl (tt, tt)) $
         calls-start ! mem run (mid ! fm (callees .start)) (no-more !) (λ c-is.
-        land ! (from ! (stop !)) (init ! 20 refl (typed-cursor 𝓤 H A W startCursor c-is)) $
+        land ! (from ! (stop !)) (init ! 20 refl (typed-cursor 𝓤 H A W newCursor c-is)) $
         forget ! 14 refl $ forget ! 12 refl $ forget ! 10 refl $
         first ! $ blocks ! $ loops ! 𝓣 (less left) (less-wf left) Inv turn (starts c-is)))
       where
-        starts : IsCursor startCursor → At
+        starts : IsCursor newCursor → At
         starts is = record {
-          cursor = startCursor;
+          cursor = newCursor;
           es = loadedFrom ws k 0;
           cursor-is = is;
           sound = start-sound ws (asked .0);
@@ -348,7 +348,7 @@ settle-spec 𝓤 H 𝓜 𝓖 𝓡 =
     (tables 𝓤 H 𝓜 𝓡 code.env .C) (tables 𝓤 H 𝓜 𝓡 code.env .Λ) #settle code.function (code.unfolded 𝓤 H 𝓜 𝓡)
     (meets 𝓤 H (𝓖 .A) (givenOf 𝓤 H 𝓜 𝓖) (𝓜 .mem) (𝓡 .run) (tablesOf 𝓤 H 𝓜 (tables 𝓤 H 𝓜 𝓡 code.env)) (record {
       load-all = cited 𝓤 H (LoadAll 𝓤 H (𝓖 .A) (𝓜 .mem) (𝓡 .run)) 𝓜 𝓡 code.env #load-all load-all-def.routine code.calls-register·entries·load-all (load-all-thm.met 𝓤 H 𝓜 𝓖 𝓡);
-      start = cited 𝓤 H (Start 𝓤 H (𝓖 .A) (𝓜 .mem) (𝓡 .run)) 𝓜 𝓡 code.env #start start-def.routine code.calls-reading·cursor·start (start-thm.met 𝓤 H 𝓜 𝓖 𝓡);
+      start = cited 𝓤 H (Start 𝓤 H (𝓖 .A) (𝓜 .mem) (𝓡 .run)) 𝓜 𝓡 code.env #start start-def.routine code.calls-reading·cursor·Cursor·new (start-thm.met 𝓤 H 𝓜 𝓖 𝓡);
       next-draw = cited 𝓤 H (NextDraw 𝓤 H (𝓖 .A) (𝓜 .mem) (𝓡 .run)) 𝓜 𝓡 code.env #next-draw next-def.routine code.calls-reading·cursor·next-draw (next-thm.met 𝓤 H 𝓜 𝓖 𝓡);
       draw = cited 𝓤 H (DrawOne 𝓤 H (𝓖 .A) (𝓜 .mem) (𝓡 .run)) 𝓜 𝓡 code.env #draw draw-def.routine code.calls-register·entries·draw (draw-thm.met 𝓤 H 𝓜 𝓖 𝓡);
     }))

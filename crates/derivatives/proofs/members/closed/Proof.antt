@@ -1,5 +1,5 @@
 use native.Mathlib.Omega.{arith}
-use Rattle.derivatives.proofs.Turns.{small-roomy}
+use Rattle.derivatives.proofs.Turns.{tally-roomy}
 use Rattle.derivatives.proofs.Covering.{none-open, none-small, open-here, open-room, open-covered, open-small, closes, closed-sound}
 use Rattle.derivatives.proofs.members.closed.Statement.{statement}
 use Rattle.derivatives.proofs.members.closed.Tie as tie
@@ -92,7 +92,7 @@ add-written-requires : tie.Need-add-written-requires
 add-written-requires c κs =
     let e = c .before .before .before .before .before .before .before .before .before in
     let if1 = c .before .before .before .before .before .if1 in
-    (small-roomy (open-small (e .pre .0) (if1 .taken)) (omega (arith, open-room (e .pre .0) (if1 .taken), e .pre .0 .short)), (open-here (e .pre .0) (if1 .taken) .under, omega (arith, open-covered (e .pre .0) (if1 .taken))))
+    (tally-roomy (open-small (e .pre .0) (if1 .taken)) (omega (arith, open-room (e .pre .0) (if1 .taken), e .pre .0 .short)), (open-here (e .pre .0) (if1 .taken) .under, omega (arith, open-covered (e .pre .0) (if1 .taken))))
 
 returns : tie.Need-returns
 returns c =

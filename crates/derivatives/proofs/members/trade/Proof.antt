@@ -1,5 +1,5 @@
 use native.Mathlib.Omega.{arith}
-use Rattle.derivatives.proofs.Turns.{head-there, amount-there, small-roomy, trade-lacks, trade-wrong, trade-on, trade-sound}
+use Rattle.derivatives.proofs.Turns.{head-there, amount-there, tally-roomy, trade-lacks, trade-wrong, trade-on, trade-sound}
 use borrow.Author.Needs.{needs}
 use Rattle.derivatives.proofs.members.trade.Statement.{statement}
 use Rattle.derivatives.proofs.members.trade.Tie as tie
@@ -94,21 +94,21 @@ add-t14 c = search needs
 add-trade-requires : tie.Need-add-trade-requires
 add-trade-requires c κs =
     let e = c .before .before .before .before .before .before .before .before .before .before in
-    small-roomy (e .pre .0 .small) (omega (arith, e .pre .0 .within, e .pre .0 .short))
+    tally-roomy (e .pre .0 .small) (omega (arith, e .pre .0 .within, e .pre .0 .short))
 
-no-credit-requires : tie.Need-no-credit-requires
-no-credit-requires c κs = search needs
+none-requires : tie.Need-none-requires
+none-requires c κs = search needs
 
 returns-3 : tie.Need-returns-3
 returns-3 c =
     let e = c .before .before .before .before .before .before .before .before .before .before .before .before in
-    let no-credit = c .no-credit in
+    let none = c .none in
     let add-trade = c .before .add-trade in
     let if2 = c .before .before .if2 in
     let trade-fault = c .before .before .before .trade-fault in
     let if1 = c .before .before .before .before .before .before .before .before .before .if1 in
     let lacking = c .before .before .before .before .before .before .before .before .before .before .lacking in
-    (trade-on (e .args .bands) (e .pre .0) (e .pre .1) (lacking .ensures) (if1 .left) (trade-fault .ensures) (if2 .left) (add-trade .ensures) (no-credit .ensures), trade-sound (e .args .bands) (e .pre .0) (e .pre .1) (lacking .ensures) (if1 .left) (trade-fault .ensures) (if2 .left) (add-trade .ensures) (no-credit .ensures))
+    (trade-on (e .args .bands) (e .pre .0) (e .pre .1) (lacking .ensures) (if1 .left) (trade-fault .ensures) (if2 .left) (add-trade .ensures) (none .ensures), trade-sound (e .args .bands) (e .pre .0) (e .pre .1) (lacking .ensures) (if1 .left) (trade-fault .ensures) (if2 .left) (add-trade .ensures) (none .ensures))
 
 pub trade-spec : {M : Type 1} → statement M
 trade-spec =
@@ -134,5 +134,5 @@ trade-spec =
     returns-2
     add-t14
     add-trade-requires
-    no-credit-requires
+    none-requires
     returns-3)

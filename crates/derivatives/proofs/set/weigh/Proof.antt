@@ -1,4 +1,4 @@
-use Rattle.derivatives.proofs.Weighing.{Weighing, weighing-start, weighing-next, weighing-onward, weighing-draws, weighing-ends, weighing-stops}
+use Rattle.derivatives.proofs.Weighing.{Weighing, weighing-start, weighing-next, weighing-onward, weighing-cover, weighing-ends, weighing-refused}
 use borrow.Author.Needs.{needs}
 use Prim.Native.Nat.{_-_}
 use lib.ListN.{length}
@@ -30,7 +30,7 @@ enum-known-draw : tie.Need-enum-known-draw Inv-loop μ-loop
 enum-known-draw c = search needs
 
 returns : tie.Need-returns Inv-loop μ-loop
-returns c = weighing-draws _ _ _ _ _ (c .before .before .before .before .loop .inv) _ (c .before .before .before .member .ensures) _ _ (c .before .draw .given .1)
+returns c = weighing-cover _ _ _ _ _ (c .before .before .before .before .loop .inv) _ (c .before .before .before .member .ensures) _ _ (c .before .draw .given .1)
 
 enum-known-t : tie.Need-enum-known-t Inv-loop μ-loop
 enum-known-t c = search needs
@@ -42,7 +42,7 @@ enum-known-number : tie.Need-enum-known-number Inv-loop μ-loop
 enum-known-number c = search needs
 
 returns-3 : tie.Need-returns-3 Inv-loop μ-loop
-returns-3 c = weighing-stops _ _ _ _ _ (c .before .before .before .before .loop .inv) _ (c .before .before .before .member .ensures) _ _ (c .before .number .given .1)
+returns-3 c = weighing-refused _ _ _ _ _ (c .before .before .before .before .loop .inv) _ (c .before .before .before .member .ensures) _ _ (c .before .number .given .1)
 
 pub weigh-spec : {M : Type 1} → statement M
 weigh-spec =

@@ -5,7 +5,7 @@ use native.Mathlib.Omega.{arith}
 use lib.ListN.{length}
 use borrow.Author.Needs.{needs}
 use Rattle.rules.specs.Word.{word, bitOf}
-use Rattle.financing.proofs.TradeLoop.{AtTrade, at-first, tally-room, trades-over, trade-there, trade-stop, trade-room, trade-next}
+use Rattle.financing.proofs.TradeLoop.{AtTrade, at-first, tally-roomy, trades-over, trade-there, trade-stop, trade-room, trade-next}
 use Rattle.financing.proofs.trades.weigh.Statement.{statement}
 use Rattle.financing.proofs.trades.weigh.Tie as tie
 
@@ -63,7 +63,7 @@ with-trade-requires c κs =
         within = omega (arith, trade-room _ _ _ (loop .inv .1) _ (standing .ensures) (if1 .taken) _ (loop .inv .0) _ (trade-fault .ensures) (if2 .left));
         short = p .0 .short;
       },
-      tally-room _ _ _ (loop .inv .1) (p .0 .short),
+      tally-roomy _ _ _ (loop .inv .1) (p .0 .short),
     )
 
 add-at : tie.Need-add-at Inv-loop μ-loop

@@ -40,17 +40,17 @@ use denote.Signature.{plain}
 use denote.Enum.Laws as LE
 use Rattle.rules.specs.declared.Entry.{Entry}
 use Rattle.rules.specs.Filing.{filing}
-use Rattle.register.proofs.Rows.{R}
+use Rattle.register.proofs.Rows.{R, typed-admission}
 use Rattle.register.proofs.Relend.{slice}
 use Rattle.register.proofs.Lent.{enters, mut-own, shr-own, mid}
 use Rattle.leverage.specs.declared.Answer.{Answer}
 use Rattle.leverage.specs.declared.Answer.the-variants.{Refused}
 use Rattle.leverage.specs.Answers.{filed}
-use Rattle.leverage.proofs.Admission.Laws as TA′
+use Rattle.reading.proofs.Admission.Laws as TA′
 use Rattle.leverage.proofs.Answer as TN
 use Rattle.leverage.proofs.Answer.Laws as TN′
-use Rattle.leverage.proofs.FilingLaws.{publishable, filed-short, filed-whole}
-use Rattle.leverage.proofs.LeverageCalls.{mach-answer, IsAnswer, answer-makes, typed-admission, typed-answer, Admit, Report, calls-admit, calls-report}
+use Rattle.leverage.proofs.FilingLaws.{admission-fits, filed-short, filed-whole}
+use Rattle.leverage.proofs.LeverageCalls.{mach-answer, IsAnswer, answer-makes, typed-answer, Admit, Report, calls-admit, calls-report}
 use Rattle.leverage.proofs.admit.admit.Symbol as admit-def
 use Rattle.leverage.proofs.admit.admit.Symbol.{name as #admit}
 use Rattle.leverage.proofs.admit.admit.Met as admit-thm
@@ -171,7 +171,7 @@ module _ {M : Type 1} (𝓤 : URA M) (H : Heap 𝓤) (A : Atoms 𝓤) (W : Given
         calls-admit ! mem run (mid ! fm met-admit) (named 2) ys refl room (named 0) ws (λ ν δ. and-then ! (load ! (from ! (stop !)) (look ! 23 refl)) (and-then ! (load ! (from ! (stop !)) (look ! 9 refl)) (no-more !))) (λ x zs x-is z-len x-eq z-eq.
         land ! (from ! (stop !)) (init ! 18 refl (typed-admission 𝓤 H A W x x-is)) $
         assigns ! (addr ! (from ! (fld ! refl (hop ! (look-in ! 22 (sub ! 0 refl (whole !))) (stop !))))) (from ! (stop !)) (init ! 8 refl (tt, tt)) $ assigns ! (agg ! (and-then ! (load ! (from ! (stop !)) (look ! 8 refl)) (and-then ! (load ! (from ! (fld ! refl (stop !))) (look-in ! 22 (sub ! 1 refl (whole !)))) (no-more !)))) (from ! (stop !)) (init ! 6 refl (tt, (tt, (record { fits = rows-room .0 }, tt)))) $
-        move ! (4 ∷ 5 ∷ 2 ∷ 3 ∷ []) $ calls-report ! mem run (mid ! fm met-report) (named 1) rows refl rows-room (named 0) ws x x-is (enough, publishable ws m n enough x x-eq) (λ ν δ. and-then ! (load ! (from ! (stop !)) (look ! 23 refl)) (and-then ! (load ! (from ! (stop !)) (look ! 5 refl)) (and-then ! (load ! (from ! (stop !)) (look ! 17 refl)) (no-more !)))) (λ r us r-is u-len r-eq u-eq. move ! (4 ∷ 5 ∷ 2 ∷ 3 ∷ []) $
+        move ! (4 ∷ 5 ∷ 2 ∷ 3 ∷ []) $ calls-report ! mem run (mid ! fm met-report) (named 1) rows refl rows-room (named 0) ws x x-is (enough, admission-fits ws m n enough x x-eq) (λ ν δ. and-then ! (load ! (from ! (stop !)) (look ! 23 refl)) (and-then ! (load ! (from ! (stop !)) (look ! 5 refl)) (and-then ! (load ! (from ! (stop !)) (look ! 17 refl)) (no-more !)))) (λ r us r-is u-len r-eq u-eq. move ! (4 ∷ 5 ∷ 2 ∷ 3 ∷ []) $
         land ! (from ! (stop !)) (init ! 26 refl (typed-answer 𝓤 H A W r r-is)) $
         returns ! (look ! 26 refl) $ forget ! 18 refl $ forget ! 16 refl $ forget ! 14 refl $ forget ! 12 refl $ forget ! 10 refl $ forget ! 8 refl $ forget ! 6 refl $ leaves r us zs r-is u-len z-len (filed-whole ws rows us ys zs enough x x-eq z-eq r r-eq u-eq))))
 

@@ -36,7 +36,7 @@ assets-requires c κs =
 returns-2 : tie.Need-returns-2
 returns-2 c =
     let r = c .before .assets .ensures in
-    (r .same, (r .fair, r .further))
+    (r .same, (r .sums-up-to, r .further))
 
 pub assets-at-spec : {M : Type 1} → statement M
 assets-at-spec =

@@ -1,7 +1,7 @@
 use native.Mathlib.Omega.{arith}
 use Rattle.rules.specs.Read.{financingSetTurn}
-use Rattle.reading.proofs.AheadLaws.{roomy}
-use Rattle.reading.proofs.ItemLaws.{met, part-of, kind-here, kind-of, of-kind-8, plain-financing, item-next, item-stop}
+use Rattle.reading.proofs.AheadLaws.{sums-roomy}
+use Rattle.reading.proofs.ItemLaws.{met, part-of, kind-here, kind-of, of-kind-8, plain-financing, item-next, item-refused}
 use borrow.Author.Needs.{needs}
 use Rattle.reading.proofs.items.financing_at.Statement.{statement}
 use Rattle.reading.proofs.items.financing_at.Tie as tie
@@ -21,7 +21,7 @@ part-financing-set-end c = search needs
 financing-set-requires : tie.Need-financing-set-requires
 financing-set-requires c κs =
     let m = met 8 (c .before .before .pre .0) (c .before .before .pre .1) in
-    (part-of m, (kind-of m, roomy (m .fair)))
+    (part-of m, (kind-of m, sums-roomy (m .sums-up-to)))
 
 enum-known-sums : tie.Need-enum-known-sums
 enum-known-sums c = search needs
@@ -33,7 +33,7 @@ add-t16 c =
     let r = c .before .before .before .financing-set in
     let g = c .before .sums .given in
     let o = item-next (e .args .bands) m (λ z. omega arith) financingSetTurn (plain-financing _) (of-kind-8 _ (kind-here m)) (r .result) (r .ensures) (g .0 .0) (g .0 .1 .0) (g .1) in
-    omega (arith, o .fair .readable .within, o .fair .readable .short)
+    omega (arith, o .sums-up-to .readable .within, o .sums-up-to .readable .short)
 
 enum-known-number : tie.Need-enum-known-number
 enum-known-number c = search needs
@@ -44,7 +44,7 @@ add-t17 c =
     let m = met 8 (e .pre .0) (e .pre .1) in
     let r = c .before .before .before .financing-set in
     let g = c .before .number .given in
-    let o = item-stop (e .args .bands) m (λ z. omega arith) financingSetTurn (plain-financing _) (of-kind-8 _ (kind-here m)) (r .result) (r .ensures) (g .0 .0) (g .0 .1 .0) (g .1) in
+    let o = item-refused (e .args .bands) m (λ z. omega arith) financingSetTurn (plain-financing _) (of-kind-8 _ (kind-here m)) (r .result) (r .ensures) (g .0 .0) (g .0 .1 .0) (g .1) in
     omega (arith, o .0, e .pre .0 .readable .short)
 
 returns : tie.Need-returns
@@ -54,7 +54,7 @@ returns c =
     let r = c .before .before .before .financing-set in
     let g = c .before .sums .given in
     let o = item-next (e .args .bands) m (λ z. omega arith) financingSetTurn (plain-financing _) (of-kind-8 _ (kind-here m)) (r .result) (r .ensures) (g .0 .0) (g .0 .1 .0) (g .1) in
-    (o .same, (o .fair, o .further))
+    (o .same, (o .sums-up-to, o .further))
 
 returns-2 : tie.Need-returns-2
 returns-2 c =
@@ -62,7 +62,7 @@ returns-2 c =
     let m = met 8 (e .pre .0) (e .pre .1) in
     let r = c .before .before .before .financing-set in
     let g = c .before .number .given in
-    (item-stop (e .args .bands) m (λ z. omega arith) financingSetTurn (plain-financing _) (of-kind-8 _ (kind-here m)) (r .result) (r .ensures) (g .0 .0) (g .0 .1 .0) (g .1) .1, tt)
+    (item-refused (e .args .bands) m (λ z. omega arith) financingSetTurn (plain-financing _) (of-kind-8 _ (kind-here m)) (r .result) (r .ensures) (g .0 .0) (g .0 .1 .0) (g .1) .1, tt)
 
 pub financing-at-spec : {M : Type 1} → statement M
 financing-at-spec =

@@ -36,7 +36,7 @@ off-balance-items-requires c κs =
 returns-2 : tie.Need-returns-2
 returns-2 c =
     let r = c .before .off-balance-items .ensures in
-    (r .same, (r .fair, r .further))
+    (r .same, (r .sums-up-to, r .further))
 
 pub off-balance-at-spec : {M : Type 1} → statement M
 off-balance-at-spec =

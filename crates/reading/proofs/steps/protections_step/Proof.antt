@@ -1,4 +1,4 @@
-use Rattle.reading.proofs.CursorLaws.{step-wrong, step-upto}
+use Rattle.reading.proofs.CursorLaws.{step-faulty, step-upto}
 use borrow.Author.Needs.{needs}
 use Rattle.reading.proofs.steps.protections_step.Statement.{statement}
 use Rattle.reading.proofs.steps.protections_step.Tie as tie
@@ -24,8 +24,8 @@ enum-known-at c = search needs
 no-sums-requires : tie.Need-no-sums-requires
 no-sums-requires c κs = search needs
 
-opened-requires : tie.Need-opened-requires
-opened-requires c κs = search needs
+new-requires : tie.Need-new-requires
+new-requires c κs = search needs
 
 returns : tie.Need-returns
 returns c =
@@ -33,7 +33,7 @@ returns c =
     let n = c .before .before .before .before .payload in
     let r = c .before .before .before .read-protections in
     let g = c .before .number .given in
-    step-wrong (e .pre .0) (e .pre .1) (n .result) (n .ensures) (r .result) (r .ensures) (g .0 .0) (g .0 .1 .0) (g .1)
+    step-faulty (e .pre .0) (e .pre .1) (n .result) (n .ensures) (r .result) (r .ensures) (g .0 .0) (g .0 .1 .0) (g .1)
 
 returns-2 : tie.Need-returns-2
 returns-2 c =
@@ -42,7 +42,7 @@ returns-2 c =
     let r = c .before .before .before .before .before .read-protections in
     let g = c .before .before .before .at .given in
     let sums = c .before .no-sums in
-    step-upto (e .pre .0) (e .pre .1) (n .result) (n .ensures) (r .result) (r .ensures) (g .0 .0) (g .1) (sums .result) (sums .ensures) (c .opened .result)
+    step-upto (e .pre .0) (e .pre .1) (n .result) (n .ensures) (r .result) (r .ensures) (g .0 .0) (g .1) (sums .result) (sums .ensures) (c .new .result)
 
 pub protections-step-spec : {M : Type 1} → statement M
 protections-step-spec =
@@ -55,6 +55,6 @@ protections-step-spec =
     enum-known-number
     enum-known-at
     no-sums-requires
-    opened-requires
+    new-requires
     returns
     returns-2)

@@ -1,20 +1,20 @@
 use native.Mathlib.Omega.{arith}
-use Rattle.reading.proofs.SetSteps.{sound-part, step-covering, set-there, set-roomy, step-whole, fault-there, step-refused}
+use Rattle.reading.proofs.SetSteps.{sound-part, step-cover, set-there, set-roomy, step-whole, fault-there, step-refused}
 use borrow.Author.Needs.{needs}
 use Rattle.reading.proofs.steps.set_step.Statement.{statement}
 use Rattle.reading.proofs.steps.set_step.Tie as tie
 
 mul-part : tie.Need-mul-part
 mul-part c =
-    let f = c .before .before .before .pre .0 .fair (c .before .before .before .pre .1 .0) in
+    let f = c .before .before .before .pre .0 .sums-up-to (c .before .before .before .pre .1 .0) in
     omega (arith, f .readable .within, f .readable .short)
 
 sub-part : tie.Need-sub-part
-sub-part c = c .before .before .before .pre .0 .fair (c .before .before .before .pre .1 .0) .readable .within
+sub-part c = c .before .before .before .pre .0 .sums-up-to (c .before .before .before .pre .1 .0) .readable .within
 
 part-part-start : tie.Need-part-part-start
 part-part-start c =
-    let f = c .before .before .before .pre .0 .fair (c .before .before .before .pre .1 .0) in
+    let f = c .before .before .before .pre .0 .sums-up-to (c .before .before .before .pre .1 .0) in
     omega (arith, f .readable .within, f .readable .short)
 
 part-part-end : tie.Need-part-part-end
@@ -76,8 +76,8 @@ with-set-requires c κs =
     let g = c .before .before .before .before .before .t .given in
     set-roomy (e .pre .0) (e .pre .1 .0) (e .pre .1 .1 .0) (e .pre .1 .1 .1) (r .result) (r .ensures) (g .0 .0) (g .0 .1 .0) (g .1)
 
-opened-requires : tie.Need-opened-requires
-opened-requires c κs = search needs
+new-requires : tie.Need-new-requires
+new-requires c κs = search needs
 
 enum-known-number : tie.Need-enum-known-number
 enum-known-number c = search needs
@@ -94,7 +94,7 @@ returns c =
     let e = c .before .before .before .before .before .before .before .before in
     let r = c .before .before .before .weigh in
     let g = c .before .draw .given in
-    step-covering (e .pre .0) (e .pre .1 .0) (e .pre .1 .1 .0) (e .pre .1 .1 .1) (r .result) (r .ensures) (g .0 .0) (g .0 .1 .0) (g .1)
+    step-cover (e .pre .0) (e .pre .1 .0) (e .pre .1 .1 .0) (e .pre .1 .1 .1) (r .result) (r .ensures) (g .0 .0) (g .0 .1 .0) (g .1)
 
 returns-2 : tie.Need-returns-2
 returns-2 c =
@@ -102,7 +102,7 @@ returns-2 c =
     let r = c .before .before .before .before .before .before .before .before .before .weigh in
     let g = c .before .before .before .before .before .before .before .t .given in
     let sums = c .before .with-set in
-    step-whole (e .pre .0) (e .pre .1 .0) (e .pre .1 .1 .0) (e .pre .1 .1 .1) (r .result) (r .ensures) (g .0 .0) (g .0 .1 .0) (g .1) (sums .result) (sums .ensures) (c .opened .result)
+    step-whole (e .pre .0) (e .pre .1 .0) (e .pre .1 .1 .0) (e .pre .1 .1 .1) (r .result) (r .ensures) (g .0 .0) (g .0 .1 .0) (g .1) (sums .result) (sums .ensures) (c .new .result)
 
 returns-3 : tie.Need-returns-3
 returns-3 c =
@@ -128,7 +128,7 @@ set-step-spec =
     shared-slice-read-with-set-3
     shared-slice-read-with-set-4
     with-set-requires
-    opened-requires
+    new-requires
     enum-known-number
     add-t33
     returns
