@@ -1,5 +1,5 @@
 -- What stands where a cover of the open credit is due: a cover, or anything else, which closes the credit. Assumes nothing.
-use Prim.Native.Nat.{ℕ, _+_, _^_, _≤_, _<_}
+use Prim.Native.Nat.{ℕ, suc, _+_, _^_, _≤_}
 use mathlib.Core.Path.{_≡_, refl, sym, _∙_, ap}
 use mathlib.Core.Bool.{Bool, true, false, _&&_}
 use mathlib.Core.List.{List, [], _∷_}
@@ -9,18 +9,23 @@ use lib.ListN.{length}
 use Rattle.rules.specs.declared.Bands.{Bands}
 use Rattle.rules.specs.declared.Draw.{Draw}
 use Rattle.rules.specs.Word.{word, sizeOf}
-use Rattle.rules.specs.Faults.{coverFault}
-use Rattle.rules.specs.Run.{bad, some}
-use Rattle.rules.specs.Weigh.{writtenAddOn}
+use Rattle.rules.specs.Book.{Cover}
+use Rattle.rules.specs.Run.{Turn, bad, some}
 use Rattle.rules.specs.Read.{lacks, stands, recordThen, coverAt, coverTurn, writtenAt}
-use Rattle.records.proofs.Words.{record-faulty, record-good}
-use Rattle.theorems.proofs.Records.{stands-is, lacks-room}
+use Rattle.records.specs.Readable.{Readable}
+use Rattle.records.proofs.Words.{whole, record-faulty, record-good}
+use Rattle.theorems.proofs.Records.{stands-is}
 use Rattle.theorems.proofs.FactorBounds.{gain-small, loss-small, written-add-on}
 use Rattle.derivatives.specs.declared.tally.Tally.{Tally}
 use Rattle.derivatives.specs.declared.covers.OpenCredit.{OpenCredit}
+use Rattle.derivatives.specs.declared.read.WrittenWords.{WrittenWords}
+use Rattle.derivatives.specs.declared.read.CoverWords.{CoverWords}
 use Rattle.derivatives.specs.declared.set.OpenSet.{OpenSet}
-use Rattle.derivatives.specs.Gathered.{plusWritten, writtenOf}
-use Rattle.derivatives.specs.Ahead.{refused, endsWith, after, fromMember, fromCover, setAhead, tallyWith, coverCause, drawHere, plusCover, TallyUpTo, OpenIn, SoundSet}
+use Rattle.derivatives.specs.Words.{writtenWords, writtenOf, coverWords, coverFaultOf, coverCause}
+use Rattle.derivatives.specs.Gathered.{plusWritten, TallyRoomy}
+use Rattle.derivatives.specs.Ahead.{refused, endsWith, after, fromMember, fromCover, setAhead, tallyWith, drawOf, drawHere, plusCover, TallyUpTo, OpenIn, closedTally, SoundSet}
+use Rattle.derivatives.proofs.Layouts.{written-laid}
+use Rattle.derivatives.proofs.Turns.{tally-roomy}
 use Rattle.derivatives.proofs.Ahead.{cover-over, cover-bad, cover-more}
 
 -- whether a cover is due: a credit is open, and a cover stands there
@@ -37,24 +42,28 @@ module _ {a b r : Bool} (q : r ≡ (a && b)) where
 
 -- ---- how large it is, and that its words are there
 
-module _ {ws : List ℕ} {begin : ℕ} {o : OpenSet} (s : SoundSet ws begin o) where
-  pub none-small : o .credit .allowed ≡ false → TallyUpTo (o .tally) (o .at)
-  none-small a = simp a at (s .small)
-
+module _ {ws : List ℕ} {o : OpenSet} (s : SoundSet ws o) where
   module _ (a : o .credit .allowed ≡ true) where
     pub open-here : OpenIn ws (o .credit) (o .at)
     open-here = s .credit a
 
-    pub open-room : o .credit .place + 5 < length ws
-    open-room = omega (arith, open-here .before, s .within)
+    pub open-readable : Readable (o .credit .place + 6) ws
+    open-readable = record { within = omega (arith, open-here .before, s .readable .within); short = s .readable .short }
 
     pub open-covered : o .credit .covered ≤ 2 ^ 62
-    open-covered = omega (arith, open-here .covered, s .within, s .short)
+    open-covered = omega (arith, open-here .covered, s .readable .within, s .readable .short)
 
-    pub open-small : TallyUpTo (o .tally) (o .credit .place)
+    open-small : TallyUpTo (o .tally) (o .credit .place)
     open-small = simp a at (s .small)
 
-    -- with the open credit in it
+    -- the credit closes
+    pub open-close : {w : WrittenWords} → w ≡ writtenWords ws (o .credit .place) → TallyRoomy (o .tally) × ((sizeOf (w .«loss_taken») ≤ sizeOf (w .notional)) × (o .credit .covered ≤ 2 ^ 62))
+    open-close q = (tally-roomy open-small (omega (arith, open-readable .within, s .readable .short)), (rw q (open-here .under), open-covered))
+
+    pub closed-open : {w : WrittenWords} → w ≡ writtenWords ws (o .credit .place) → {t : Tally} → t ≡ plusWritten (o .tally) (writtenOf w) (o .credit .covered) → t ≡ closedTally ws o
+    unfolding closedTally
+    closed-open wq q = q ∙ rw (written-laid ws (o .credit .place) wq) (simp a)
+
     closed-small : TallyUpTo (tallyWith ws (o .tally) (o .credit) 0) (o .at)
     unfolding writtenAt
     closed-small =
@@ -67,78 +76,78 @@ module _ {ws : List ℕ} {begin : ℕ} {o : OpenSet} (s : SoundSet ws begin o) w
           uncovered = omega (arith, open-small .uncovered);
         }
 
-  pub cover-there : stands 7 ws (o .at) ≡ true → o .at < length ws
-  cover-there k = stands-is 7 ws (o .at) k .0
+  pub closed-none : o .credit .allowed ≡ false → o .tally ≡ closedTally ws o
+  unfolding closedTally
+  closed-none a = simp a
 
-  -- a cover without a cause against it
-  module _ (k : stands 7 ws (o .at) ≡ true) {f : ℕ} (fq : f ≡ coverCause ws (o .at)) (z : f ≡ 0) where
-    good : (lacks 1 ws (o .at) ≡ false) × (recordThen ws (o .at) (coverFault (word ws (o .at)) (word ws (o .at + 1))) (some (coverAt ws (o .at)) 0) ≡ some (coverAt ws (o .at)) 0 (o .at + 2))
-    unfolding coverCause
-    good = record-good ws (o .at) 7 (stands-is 7 ws (o .at) k .1) (coverFault (word ws (o .at)) (word ws (o .at + 1))) (some (coverAt ws (o .at)) 0) (sym fq ∙ z)
+  pub cover-there : stands 7 ws (o .at) ≡ true → Readable (suc (o .at)) ws
+  cover-there k = record { within = omega (arith, stands-is 7 ws (o .at) k .0); short = s .readable .short }
 
-    pub cover-room : o .at + 1 < length ws
-    cover-room = lacks-room 1 ws (o .at) (good .0) (cover-there k)
+  -- ---- what lies ahead
 
--- ---- what lies ahead
-
-module _ (bands : Bands) {ws : List ℕ} {begin : ℕ} {o : OpenSet} (s : SoundSet ws begin o) where
-  pub none-open : o .credit .allowed ≡ false → setAhead bands ws begin o ≡ fromMember bands ws begin (o .tally) (o .at)
+  pub some-open : (bands : Bands) (begin : ℕ) → o .credit .allowed ≡ true → setAhead bands ws begin o ≡ fromCover bands ws begin (o .tally) (o .credit) (o .at)
   unfolding setAhead
-  none-open a = simp a
+  some-open bands begin a = simp a
 
-  pub some-open : o .credit .allowed ≡ true → setAhead bands ws begin o ≡ fromCover bands ws begin (o .tally) (o .credit) (o .at)
-  unfolding setAhead
-  some-open a = simp a
+  -- no cover stands there, or none is allowed
+  pub closes : (o .credit .allowed ≡ true → stands 7 ws (o .at) ≡ false) → {t : Tally} → t ≡ closedTally ws o
+      → ((bands : Bands) (begin : ℕ) → setAhead bands ws begin o ≡ fromMember bands ws begin t (o .at)) × TallyUpTo t (o .at)
+  unfolding setAhead closedTally coverTurn
+  closes k {t} q = go (o .credit .allowed) refl
+    where
+      go : (b : Bool) → o .credit .allowed ≡ b → ((bands : Bands) (begin : ℕ) → setAhead bands ws begin o ≡ fromMember bands ws begin t (o .at)) × TallyUpTo t (o .at)
+      go true a =
+          let is : t ≡ tallyWith ws (o .tally) (o .credit) 0 = q ∙ simp (a, add-zero) in
+          rw is (λ bands begin. some-open bands begin a ∙ cover-over bands ws begin (o .tally) (o .credit) (o .at) (s .readable .within) (simp (k a)), closed-small a)
+      go false a =
+          let is : t ≡ o .tally = q ∙ simp a in
+          rw is (λ bands begin. simp a, simp a at (s .small))
 
   -- a cover stands there
-  module _ (k : stands 7 ws (o .at) ≡ true) {f : ℕ} (fq : f ≡ coverCause ws (o .at)) where
-    abbrev coverFaultAt : ℕ
-    coverFaultAt = coverFault (word ws (o .at)) (word ws (o .at + 1))
+  module _ (k : stands 7 ws (o .at) ≡ true) {f : ℕ} (q : f ≡ coverCause ws (o .at)) where
+    abbrev coverNext : ℕ → Turn Cover
+    coverNext = some (coverAt ws (o .at)) 0
 
-    cover-turn : coverTurn ws (o .at) ≡ recordThen ws (o .at) coverFaultAt (some (coverAt ws (o .at)) 0)
+    cover-turn : coverTurn ws (o .at) ≡ recordThen ws (o .at) (coverFaultOf (coverWords ws (o .at))) coverNext
     unfolding coverTurn
     cover-turn = simp k
 
-    pub cover-wrong : (f ≡ 0 → ⊥) → fromCover bands ws begin (o .tally) (o .credit) (o .at) ≡ endsWith (refused f (o .at))
-    unfolding coverCause
-    cover-wrong n =
-        cover-bad bands ws begin (o .tally) (o .credit) (o .at) (s .within) f (o .at)
-        (cover-turn ∙ record-faulty ws (o .at) 7 (stands-is 7 ws (o .at) k .1) coverFaultAt (some (coverAt ws (o .at)) 0) (λ z. n (fq ∙ z)) ∙ ap (λ (x : ℕ). bad x (o .at)) (sym fq)) n
+    pub cover-faulty : (begin : ℕ) → (f ≡ 0 → ⊥)
+        → ((bands : Bands) → fromCover bands ws begin (o .tally) (o .credit) (o .at) ≡ endsWith (refused f (o .at))) × (o .at ≤ length ws)
+    cover-faulty begin n = (
+      λ bands. cover-bad bands ws begin (o .tally) (o .credit) (o .at) (s .readable .within) f (o .at)
+          (cover-turn ∙ record-faulty ws (o .at) 7 (stands-is 7 ws (o .at) k .1) (coverFaultOf (coverWords ws (o .at))) coverNext (λ z. n (q ∙ z)) ∙ ap (λ (x : ℕ). bad x (o .at)) (sym q)) n,
+      s .readable .within,
+    )
 
-    module _ (a : o .credit .allowed ≡ true) (z : f ≡ 0) {d : Draw} (dq : d ≡ drawHere ws begin (o .at) (o .credit)) {c : OpenCredit} (cq : c ≡ plusCover (o .credit) (d .amount)) where
-      abbrev behindCover : OpenSet
-      behindCover = record { at = o .at + 2; tally = o .tally; credit = c }
+    module _ (z : f ≡ 0) where
+      good : (lacks 1 ws (o .at) ≡ false) × (recordThen ws (o .at) (coverFaultOf (coverWords ws (o .at))) coverNext ≡ coverNext (o .at + 2))
+      good = record-good ws (o .at) 7 (stands-is 7 ws (o .at) k .1) (coverFaultOf (coverWords ws (o .at))) coverNext (sym q ∙ z)
 
-      cover-is : coverTurn ws (o .at) ≡ some (coverAt ws (o .at)) 0 (o .at + 2)
-      cover-is = cover-turn ∙ good s k fq z .1
+      pub cover-readable : Readable (o .at + 2) ws
+      cover-readable = whole 1 refl (good .0) (cover-there k)
 
-      credit-is : c ≡ plusCover (o .credit) (sizeOf (word ws (o .at + 1)))
-      credit-is = cq ∙ ap (λ (x : Draw). plusCover (o .credit) (x .amount)) dq
+      module _ (a : o .credit .allowed ≡ true) {w : WrittenWords} (wq : w ≡ writtenWords ws (o .credit .place)) {x : CoverWords} (xq : x ≡ coverWords ws (o .at)) (begin : ℕ)
+          {d : Draw} (dq : d ≡ drawOf w x (begin + o .at) (o .credit .room)) {c : OpenCredit} (cq : c ≡ plusCover (o .credit) (d .amount)) where
+        abbrev behindCover : OpenSet
+        behindCover = record { at = o .at + 2; tally = o .tally; credit = c }
 
-      pub cover-on : fromCover bands ws begin (o .tally) (o .credit) (o .at) ≡ after (d ∷ []) (setAhead bands ws begin behindCover)
-      unfolding setAhead
-      cover-on = rw (dq, credit-is) (cover-more bands ws begin (o .tally) (o .credit) (o .at) (s .within) (o .at + 2) cover-is)
+        draw-is : d ≡ drawHere ws begin (o .at) (o .credit)
+        draw-is = dq ∙ rw (wq, xq)
 
-      pub cover-sound : SoundSet ws begin behindCover
-      cover-sound =
-          let h = open-here s a in
-          rw credit-is (record {
-            short = s .short;
-            within = omega (arith, cover-room s k fq z);
-            small = open-small s a;
-            credit = λ x. record { before = omega (arith, h .before); under = h .under; covered = omega (arith, h .covered) };
-          })
+        credit-is : c ≡ plusCover (o .credit) (sizeOf (word ws (o .at + 1)))
+        unfolding coverAt
+        credit-is = cq ∙ ap (λ (y : Draw). plusCover (o .credit) (y .amount)) draw-is
 
-  -- anything else stands there: the credit closes
-  module _ (a : o .credit .allowed ≡ true) (k : stands 7 ws (o .at) ≡ false) {t : Tally}
-      (q : t ≡ plusWritten (o .tally) (writtenOf (word ws (o .credit .place)) (word ws (o .credit .place + 1)) (word ws (o .credit .place + 2)) (word ws (o .credit .place + 3)) 0 (word ws (o .credit .place + 5)) []) (o .credit .covered)) where
-    tally-is : t ≡ tallyWith ws (o .tally) (o .credit) 0
-    unfolding writtenAt writtenAddOn
-    tally-is = q ∙ simp add-zero
-
-    pub closes : setAhead bands ws begin o ≡ fromMember bands ws begin t (o .at)
-    unfolding coverTurn
-    closes = some-open a ∙ rw tally-is (cover-over bands ws begin (o .tally) (o .credit) (o .at) (s .within) (simp k))
-
-    pub closed-sound : TallyUpTo t (o .at)
-    closed-sound = rw tally-is (closed-small s a)
+        pub cover-good : ((bands : Bands) → fromCover bands ws begin (o .tally) (o .credit) (o .at) ≡ after (d ∷ []) (setAhead bands ws begin behindCover)) × SoundSet ws behindCover
+        unfolding setAhead
+        cover-good =
+            let h = open-here a in
+            rw (draw-is, credit-is) (
+              λ bands. cover-more bands ws begin (o .tally) (o .credit) (o .at) (s .readable .within) (o .at + 2) (cover-turn ∙ good .1),
+              record {
+                readable = cover-readable;
+                small = open-small a;
+                credit = λ x. record { before = omega (arith, h .before); under = h .under; covered = omega (arith, h .covered) };
+              },
+            )

@@ -1,4 +1,5 @@
 pub mod Truth
+pub mod Layouts
 pub mod AddOns
 pub mod SetRows
 pub mod Entry

@@ -2,15 +2,17 @@
 use Prim.Native.Nat.{ℕ, _+_, _-_, _*_, _≤_}
 use mathlib.Core.Path.{_≡_, refl, _∙_}
 use mathlib.Core.Bool.{Bool, true, false, cond}
-use mathlib.Core.List.{[]}
 use native.Mathlib.Omega.{arith}
 use Rattle.rules.specs.declared.Sums.{Sums}
 use Rattle.rules.specs.Word.{bitOf, sizeOf}
 use Rattle.rules.specs.Book.{DerivativeSet}
+use Rattle.rules.specs.Read.{derivativeSetAt}
 use Rattle.rules.specs.Weigh.{marginOffsets, replacementOf, weightedIn}
 use Rattle.rules.proofs.Weighted.{at-most, mono-x}
+use Rattle.derivatives.specs.declared.read.SetWords.{SetWords}
 use Rattle.derivatives.specs.declared.tally.Tally.{Tally}
-use Rattle.derivatives.specs.Gathered.{setOf, tallyBy, plusSet, replacedBy, weightedBy}
+use Rattle.derivatives.specs.Words.{setOf}
+use Rattle.derivatives.specs.Gathered.{tallyBy, plusSet, replacedBy, weightedBy}
 
 -- ---- how large
 
@@ -39,21 +41,21 @@ margin-off true true gains losses received = omega arith
 margin-off true false gains losses received = omega arith
 margin-off false b gains losses received = refl
 
-module _ (w received paid posted : ℕ) (t : Tally) where
+module _ (d : SetWords) (t : Tally) where
   abbrev here : DerivativeSet
-  here = setOf w received paid posted []
+  here = setOf d
 
-  pub replaced-is : (n k : Bool) (c m r : ℕ) → n ≡ bitOf 0 w → k ≡ marginOffsets here → c ≡ sizeOf received → m ≡ cond k c 0
+  pub replaced-is : (n k : Bool) (c m r : ℕ) → n ≡ bitOf 0 (d .head) → k ≡ marginOffsets here → c ≡ sizeOf (d .received) → m ≡ cond k c 0
       → r ≡ replacedBy n (t .gains) (t .losses + m) → r ≡ replacementOf here (tallyBy t)
-  unfolding replacementOf replacedBy
-  replaced-is n k c m r nq kq cq mq rq = rq ∙ simp (mq, kq, cq, nq) (margin-off (bitOf 0 w) (marginOffsets here) (t .gains) (t .losses) (sizeOf received))
+  unfolding replacementOf replacedBy derivativeSetAt
+  replaced-is n k c m r nq kq cq mq rq = rq ∙ simp (mq, kq, cq, nq) (margin-off (bitOf 0 (d .head)) (marginOffsets here) (t .gains) (t .losses) (sizeOf (d .received)))
 
-  pub weighted-is : (n : Bool) (x r : ℕ) → n ≡ bitOf 0 w → r ≡ weightedBy n (t .gains) (t .losses) x → r ≡ weightedIn here (tallyBy t) x
-  unfolding weightedIn weightedBy
+  pub weighted-is : (n : Bool) (x r : ℕ) → n ≡ bitOf 0 (d .head) → r ≡ weightedBy n (t .gains) (t .losses) x → r ≡ weightedIn here (tallyBy t) x
+  unfolding weightedIn weightedBy derivativeSetAt
   weighted-is n x r nq rq = rq ∙ simp nq
 
   -- the sums as the code makes them
-  pub with-set-is : (s : Sums) (k x : Bool) (p q o e r g kept : ℕ) → k ≡ marginOffsets here → x ≡ bitOf 5 w → p ≡ sizeOf paid → q ≡ sizeOf posted
+  pub with-set-is : (s : Sums) (k x : Bool) (p q o e r g kept : ℕ) → k ≡ marginOffsets here → x ≡ bitOf 5 (d .head) → p ≡ sizeOf (d .paid) → q ≡ sizeOf (d .posted)
       → o ≡ cond k (1000 * p) 0 → e ≡ cond x (1000 * r + kept) 0
       → r ≡ replacementOf here (tallyBy t) → g ≡ weightedIn here (tallyBy t) (t .gross) → kept ≡ weightedIn here (tallyBy t) (t .gross - t .uncovered)
       → _≡_ {A = Sums} (record {
@@ -73,4 +75,5 @@ module _ (w received paid posted : ℕ) (t : Tally) where
         committed = s .committed;
         unconverted = s .unconverted;
       }) (plusSet s here t)
+  unfolding derivativeSetAt
   with-set-is s k x p q o e r g kept kq xq pq qq oq eq rq gq keptq = simp (oq, eq, kq, xq, pq, qq, rq, gq, keptq)

@@ -1,34 +1,27 @@
--- Truth values, and the bits of a trade that do not go together. Assumes nothing.
-use Prim.Native.Nat.{ℕ, _+_, _*_, _/_, _%_, _^_, _<_}
+-- The days of a trade that do not go together, and five bits that are all 1. Assumes nothing.
+use Prim.Native.Nat.{ℕ, _+_, _-_, _*_, _/_, _%_, _^_, _≤_, _<_}
 use mathlib.Core.Path.{_≡_, refl, sym, _∙_, ap}
-use mathlib.Core.Bool.{Bool, true, false, not, _&&_, _||_}
+use mathlib.Core.Bool.{Bool, true, false, cond, not, _&&_}
 use native.Mathlib.Nat.{div-one}
 use native.Mathlib.Omega.{arith}
-use borrow.Author.Tests.{eq-eqb, ne-eqb, eqb-true, eqb-false}
-use lib.Dec.{eqb}
+use borrow.Author.Tests.{eq-eqb, ne-eqb, eqb-true, eqb-false, le-ltb, lt-ltb}
+use lib.Dec.{eqb, ltb}
 use lib.Pow.{mod-pow-add}
 use Rattle.rules.specs.Word.{bitOf}
-use Rattle.rules.specs.Faults.{tradeBitsFault}
 
-and-false : (b : Bool) → b && false ≡ false
-and-false true = refl
-and-false false = refl
+-- ---- the days to the next reset
 
-and-true : (b : Bool) → b && true ≡ b
-and-true true = refl
-and-true false = refl
-
-or-false : (b : Bool) → b || false ≡ b
-or-false true = refl
-or-false false = refl
-
--- bought credit, and what is none
-module _ (class payments : ℕ) (qualifying : Bool) where
-  pub class-credit : class ≡ 5 → (payments ≡ 0 → ⊥) → not (eqb payments 1) ≡ tradeBitsFault class payments qualifying
-  class-credit e n = simp (e, ne-eqb payments 0 n, and-false, or-false)
-
-  pub class-other : (class ≡ 7 → ⊥) → (class ≡ 5 → ⊥) → (payments ≡ 0 → ⊥) → qualifying ≡ tradeBitsFault class payments qualifying
-  class-other s f n = simp (ne-eqb class 7 s, ne-eqb class 5 f, ne-eqb payments 0 n, and-true)
+-- with the mark, counted as 1, no gap is beyond what is allowed, and without it any gap is
+module _ (mark : Bool) (one remaining next : ℕ) (is : one ≡ cond mark 1 0) (short : remaining < 2 ^ 27) (order : next ≤ remaining) where
+  pub gap-beyond : ltb (2 ^ 27 * one) (remaining - next) ≡ (not mark && not (eqb next remaining))
+  gap-beyond = go mark (eqb next remaining) is refl
+    where
+      go : (mark same : Bool) → one ≡ cond mark 1 0 → eqb next remaining ≡ same → ltb (2 ^ 27 * one) (remaining - next) ≡ (not mark && not same)
+      go true same i e = le-ltb (2 ^ 27 * one) (remaining - next) (omega arith)
+      go false true i e = le-ltb (2 ^ 27 * one) (remaining - next) (omega (arith, eqb-true next remaining e))
+      go false false i e =
+          let other : next ≡ remaining → ⊥ = eqb-false next remaining e in
+          lt-ltb (2 ^ 27 * one) (remaining - next) (omega arith)
 
 -- ---- five bits that are all 1
 

@@ -1,29 +1,35 @@
 -- What stands where a member of a set is due: what lies ahead behind it, and how large the tally is. Assumes nothing.
 use Prim.Native.Nat.{ℕ, suc, _+_, _-_, _^_, _≤_, _<_}
-use mathlib.Core.Path.{_≡_, sym, _∙_, ap}
-use mathlib.Core.Bool.{Bool, true, false}
+use mathlib.Core.Path.{_≡_, refl, sym, _∙_, ap}
+use mathlib.Core.Bool.{true, false}
 use mathlib.Core.List.{List}
 use native.Mathlib.Omega.{arith}
 use borrow.Author.Tests.{le-ltb, lt-ltb, ne-eqb, ltb-false}
 use lib.ListN.{length}
 use Rattle.rules.specs.declared.Bands.{Bands}
-use Rattle.rules.specs.Word.{word, kindOf, sizeOf}
-use Rattle.rules.specs.Book.{Member, trade, written}
+use Rattle.rules.specs.Word.{word, kindOf, sizeOf, amountsOfKind}
+use Rattle.rules.specs.Book.{Member, trade}
 use Rattle.rules.specs.Run.{Turn, bad, some, runFrom}
-use Rattle.rules.specs.Faults.{tradeFault, writtenFault}
+use Rattle.rules.specs.Faults.{writtenFault}
 use Rattle.rules.specs.Read.{lacks, stands, recordThen, coverTurn, withCovers, writtenTurn, tradeAt, tradeTurn, memberTurn}
 use Rattle.rules.proofs.Runs.{FineTurn}
-use Rattle.records.proofs.Words.{room, turn-lacks, turn-fault, turn-on}
+use Rattle.records.specs.Readable.{Readable}
+use Rattle.records.specs.Cause.{recordCause}
+use Rattle.records.proofs.Words.{whole, record-faulty, record-good}
 use Rattle.theorems.proofs.Valid.{cause-none}
 use Rattle.theorems.proofs.Records.{stands-is}
 use Rattle.theorems.proofs.FactorBounds.{loss-small}
 use Rattle.theorems.proofs.MemberBounds.{perWord, memberWeight, fine-member}
+use Rattle.derivatives.specs.declared.read.TradeWords.{TradeWords}
+use Rattle.derivatives.specs.declared.read.WrittenWords.{WrittenWords}
 use Rattle.derivatives.specs.declared.tally.Tally.{Tally}
 use Rattle.derivatives.specs.declared.covers.OpenCredit.{OpenCredit}
-use Rattle.derivatives.specs.declared.set.OpenSet.{OpenSet}
-use Rattle.derivatives.specs.Gathered.{plusMember, tradeOf, TallyRoomy}
-use Rattle.derivatives.specs.Ahead.{gathered, refused, endsWith, fromMember, setAhead, noCredit, TallyUpTo, SoundSet, Standing}
-use Rattle.derivatives.proofs.Ahead.{opening, member-over, member-bad, member-trade, member-opens}
+use Rattle.derivatives.specs.declared.members.MemberStep.the-variants.{Next, End, Refused}
+use Rattle.derivatives.specs.Words.{tradeWords, tradeOf, tradeFaultOf, tradeCause, writtenWords, writtenFaultOf, writtenCause}
+use Rattle.derivatives.specs.Gathered.{plusMember, TallyRoomy}
+use Rattle.derivatives.specs.Ahead.{setAhead, noCredit, TallyUpTo, Standing, MemberRead}
+use Rattle.derivatives.proofs.Layouts.{trade-laid}
+use Rattle.derivatives.proofs.Ahead.{member-over, member-bad, member-trade, member-opens}
 
 -- ---- how large a tally is
 
@@ -38,133 +44,123 @@ tally-roomy s h = record {
 }
 
 -- a written credit without a fault has no more loss than notional
-pub loss-under : (w value notional lossTaken days premiums f : ℕ) → f ≡ writtenFault w value notional lossTaken days premiums → f ≡ 0 → sizeOf lossTaken ≤ sizeOf notional
+pub loss-under : (w : WrittenWords) → writtenFaultOf w ≡ 0 → sizeOf (w .«loss_taken») ≤ sizeOf (w .notional)
 unfolding writtenFault
-loss-under w value notional lossTaken days premiums f q e =
-    let a = cause-none 6 _ _ (sym q ∙ e) .1 in
+loss-under w e =
+    let a = cause-none 6 _ _ e .1 in
     let b = cause-none 7 _ _ a .1 in
     ltb-false _ _ (cause-none 8 _ _ b .0)
 
--- ---- the words of a record that stands there
+module _ {ws : List ℕ} {t : Tally} {at : ℕ} (s : Standing ws at t) where
+  -- ---- no member
 
-module _ {ws : List ℕ} {begin : ℕ} {t : Tally} {at : ℕ} (s : Standing ws begin at t) (kind : ℕ) (k : stands kind ws at ≡ true) where
-  pub head-there : at < length ws
-  head-there = stands-is kind ws at k .0
-
-  pub amount-there : (n i : ℕ) {l : Bool} → l ≡ lacks n ws at → l ≡ false → i ≤ n → at + i < length ws
-  amount-there n i {l} lq e h = room n i ws at l lq e head-there h
-
--- ---- a trade or a written credit
-
-module _ (bands : Bands) {ws : List ℕ} {begin : ℕ} {t : Tally} {at : ℕ} (s : Standing ws begin at t) where
-  -- by the kind that stands there
-  pub none-beyond : length ws ≤ at → fromMember bands ws begin t at ≡ endsWith (gathered t at)
+  pub none-beyond : (bands : Bands) → length ws ≤ at → MemberRead bands ws at t (End t)
   unfolding memberTurn
-  none-beyond h = member-over bands ws begin t at (s .within) (simp (le-ltb at (length ws) h))
+  none-beyond bands h = (λ begin. member-over bands ws begin t at (s .readable .within) (simp (le-ltb at (length ws) h)), s .small)
 
-  module _ (h : at < length ws) {k : ℕ} (kq : k ≡ kindOf (word ws at)) where
-    pub none-there : (k ≡ 5 → ⊥) → (k ≡ 6 → ⊥) → fromMember bands ws begin t at ≡ endsWith (gathered t at)
-    unfolding memberTurn
-    none-there n m = member-over bands ws begin t at (s .within) (simp (lt-ltb at (length ws) h, ← kq, ne-eqb k 5 n, ne-eqb k 6 m))
+  pub none-there : (bands : Bands) → at < length ws → {k : ℕ} → k ≡ kindOf (word ws at) → (k ≡ 5 → ⊥) → (k ≡ 6 → ⊥) → MemberRead bands ws at t (End t)
+  unfolding memberTurn
+  none-there bands h {k} kq n m = (λ begin. member-over bands ws begin t at (s .readable .within) (simp (lt-ltb at (length ws) h, ← kq, ne-eqb k 5 n, ne-eqb k 6 m)), s .small)
 
-  -- kind 5
-  module _ (k : stands 5 ws at ≡ true) {l : Bool} (lq : l ≡ lacks 4 ws at) where
-    abbrev tradeFaultAt : ℕ
-    tradeFaultAt = tradeFault (word ws at) (word ws (at + 1)) (word ws (at + 2)) (word ws (at + 3)) (word ws (at + 4))
+  -- ---- a record of some kind, by its cause
 
-    trade-turn : memberTurn ws at ≡ recordThen ws at tradeFaultAt (some (trade (tradeAt ws at)) 0)
+  module _ (kind : ℕ) (k : stands kind ws at ≡ true) where
+    pub head-there : Readable (suc at) ws
+    head-there = record { within = omega (arith, stands-is kind ws at k .0); short = s .readable .short }
+
+    module _ (fault : ℕ) (next : ℕ → Turn Member) (turn : memberTurn ws at ≡ recordThen ws at fault next) {f : ℕ} (q : f ≡ recordCause (amountsOfKind kind) ws at fault) where
+      faulty : (bands : Bands) → (f ≡ 0 → ⊥) → MemberRead bands ws at t (Refused f at)
+      faulty bands n = (
+        λ begin. member-bad bands ws begin t at (s .readable .within) f at
+            (turn ∙ record-faulty ws at kind (stands-is kind ws at k .1) fault next (λ z. n (q ∙ z)) ∙ ap (λ (x : ℕ). bad x at) (sym q)) n,
+        s .readable .within,
+      )
+
+      good : f ≡ 0 → (lacks (amountsOfKind kind) ws at ≡ false) × (recordThen ws at fault next ≡ next (at + suc (amountsOfKind kind)))
+      good z = record-good ws at kind (stands-is kind ws at k .1) fault next (sym q ∙ z)
+
+      readable : f ≡ 0 → Readable (at + suc (amountsOfKind kind)) ws
+      readable z = whole (amountsOfKind kind) refl (good z .0) head-there
+
+  -- ---- kind 5
+
+  module _ (k : stands 5 ws at ≡ true) {f : ℕ} (q : f ≡ tradeCause ws at) where
+    abbrev tradeNext : ℕ → Turn Member
+    tradeNext = some (trade (tradeAt ws at)) 0
+
+    trade-turn : memberTurn ws at ≡ recordThen ws at (tradeFaultOf (tradeWords ws at)) tradeNext
     unfolding memberTurn tradeTurn
     trade-turn = simp k
 
-    pub trade-lacks : l ≡ true → fromMember bands ws begin t at ≡ endsWith (refused 6 at)
-    trade-lacks e =
-        member-bad bands ws begin t at (s .within) 6 at (trade-turn ∙ turn-lacks ws at 5 (stands-is 5 ws at k .1) tradeFaultAt (some (trade (tradeAt ws at)) 0) (sym lq ∙ e)) (λ z. omega arith)
+    pub trade-faulty : (bands : Bands) → (f ≡ 0 → ⊥) → MemberRead bands ws at t (Refused f at)
+    trade-faulty = faulty 5 k (tradeFaultOf (tradeWords ws at)) tradeNext trade-turn q
 
-    module _ (e : l ≡ false) {f : ℕ} (fq : f ≡ tradeFaultAt) where
-      pub trade-wrong : (f ≡ 0 → ⊥) → fromMember bands ws begin t at ≡ endsWith (refused f at)
-      trade-wrong n =
-          member-bad bands ws begin t at (s .within) f at
-          (trade-turn ∙ turn-fault ws at 5 (stands-is 5 ws at k .1) tradeFaultAt (some (trade (tradeAt ws at)) 0) (sym lq ∙ e) (λ z. n (fq ∙ z)) ∙ ap (λ (x : ℕ). bad x at) (sym fq)) n
+    module _ (z : f ≡ 0) where
+      pub trade-readable : Readable (at + 5) ws
+      trade-readable = readable 5 k (tradeFaultOf (tradeWords ws at)) tradeNext trade-turn q z
 
-      module _ (z : f ≡ 0) where
-        trade-is : memberTurn ws at ≡ some (trade (tradeAt ws at)) 0 (at + 5)
-        trade-is = trade-turn ∙ turn-on ws at 5 (stands-is 5 ws at k .1) tradeFaultAt (some (trade (tradeAt ws at)) 0) (sym lq ∙ e) (sym fq ∙ z)
+      trade-is : memberTurn ws at ≡ some (trade (tradeAt ws at)) 0 (at + 5)
+      trade-is = trade-turn ∙ good 5 k (tradeFaultOf (tradeWords ws at)) tradeNext trade-turn q z .1
 
+      module _ (bands : Bands) where
         trade-small : TallyUpTo (plusMember bands t (trade (tradeAt ws at))) (at + 5)
         unfolding tradeAt
         trade-small =
-            let w : FineTurn (length ws) perWord (memberWeight bands) at (some (trade (tradeAt ws at)) 0 (at + 5)) = rw trade-is at (fine-member bands ws at (s .within)) in
+            let w : FineTurn (length ws) perWord (memberWeight bands) at (some (trade (tradeAt ws at)) 0 (at + 5)) = rw trade-is at (fine-member bands ws at (s .readable .within)) in
             record {
               weight = omega (arith, s .small .weight, w .2);
               losses = omega (arith, s .small .losses, loss-small (word ws (at + 1)));
               uncovered = omega (arith, s .small .uncovered);
             }
 
-        module _ {more : Tally} (mq : more ≡ plusMember bands t (trade (tradeOf (word ws at) (word ws (at + 1)) (word ws (at + 2)) (word ws (at + 3)) (word ws (at + 4))))) {c : OpenCredit} (cq : c ≡ noCredit) where
-          abbrev behindTrade : OpenSet
-          behindTrade = record { at = at + 5; tally = more; credit = c }
+        pub trade-good : {x : TradeWords} → x ≡ tradeWords ws at → {more : Tally} → more ≡ plusMember bands t (trade (tradeOf x)) → {c : OpenCredit} → c ≡ noCredit
+            → MemberRead bands ws at t (Next (record { at = at + 5; tally = more; credit = c }))
+        unfolding setAhead
+        trade-good xq {more} mq cq =
+            let is : more ≡ plusMember bands t (trade (tradeAt ws at)) = mq ∙ rw (trade-laid ws at xq) in
+            rw (cq, is) (
+              λ begin. member-trade bands ws begin t at (s .readable .within) (tradeAt ws at) (at + 5) trade-is,
+              (record { readable = trade-readable; small = trade-small; credit = λ x. let y : _≡_ {A = ℕ} 0 1 = cc in absurd (omega arith) }, omega arith),
+            )
 
-          pub trade-on : fromMember bands ws begin t at ≡ setAhead bands ws begin behindTrade
-          unfolding setAhead tradeAt
-          trade-on = rw (cq, mq) (member-trade bands ws begin t at (s .within) (tradeAt ws at) (at + 5) trade-is)
+  -- ---- kind 6, which opens
 
-          pub trade-sound : SoundSet ws begin behindTrade × (at < at + 5)
-          unfolding tradeAt
-          trade-sound =
-              rw (cq, mq) (
+  module _ (k : stands 6 ws at ≡ true) {f : ℕ} (q : f ≡ writtenCause ws at) where
+    abbrev writtenNext : ℕ → Turn Member
+    writtenNext next = withCovers ws at (runFrom (coverTurn ws) (suc (length ws)) next)
+
+    written-turn : memberTurn ws at ≡ recordThen ws at (writtenFaultOf (writtenWords ws at)) writtenNext
+    unfolding memberTurn writtenTurn
+    written-turn = let k6 = stands-is 6 ws at k in simp (lt-ltb at (length ws) (k6 .0), k6 .1)
+
+    pub written-faulty : (f ≡ 0 → ⊥) → (bands : Bands) → MemberRead bands ws at t (Refused f at)
+    written-faulty n bands = faulty 6 k (writtenFaultOf (writtenWords ws at)) writtenNext written-turn q bands n
+
+    module _ (z : f ≡ 0) where
+      pub written-readable : Readable (at + 6) ws
+      written-readable = readable 6 k (writtenFaultOf (writtenWords ws at)) writtenNext written-turn q z
+
+      written-turns : (lacks 5 ws at ≡ false) × (recordThen ws at (writtenFaultOf (writtenWords ws at)) writtenNext ≡ writtenNext (at + 6))
+      written-turns = good 6 k (writtenFaultOf (writtenWords ws at)) writtenNext written-turn q z
+
+      under : sizeOf (word ws (at + 3)) ≤ sizeOf (word ws (at + 2))
+      under = loss-under (writtenWords ws at) (sym (q ∙ simp (written-turns .0)) ∙ z)
+
+      module _ {x : WrittenWords} (xq : x ≡ writtenWords ws at) {n l : ℕ} (nq : n ≡ sizeOf (x .notional)) (lq : l ≡ sizeOf (x .«loss_taken»)) where
+        pub written-under : l ≤ n
+        written-under = rw (lq, nq, xq) under
+
+        pub written-good : (bands : Bands) → MemberRead bands ws at t (Next (record { at = at + 6; tally = t; credit = record { allowed = true; place = at; covered = 0; room = n - l } }))
+        unfolding setAhead
+        written-good bands =
+            rw (lq, nq, xq) (
+              λ begin. member-opens bands ws begin t at (s .readable .within) (written-turn ∙ written-turns .1),
+              (
                 record {
-                  short = s .short;
-                  within = omega (arith, amount-there s 5 k 4 4 lq e (omega arith));
-                  small = trade-small;
-                  credit = λ x. let y : _≡_ {A = ℕ} 0 1 = cc in absurd (omega arith);
+                  readable = written-readable;
+                  small = s .small;
+                  credit = λ x. record { before = omega arith; under = under; covered = omega arith };
                 },
                 omega arith,
-              )
-
-  -- kind 6, which opens
-  module _ (k : stands 6 ws at ≡ true) {l : Bool} (lq : l ≡ lacks 5 ws at) where
-    abbrev writtenFaultAt : ℕ
-    writtenFaultAt = writtenFault (word ws at) (word ws (at + 1)) (word ws (at + 2)) (word ws (at + 3)) (word ws (at + 4)) (word ws (at + 5))
-
-    abbrev covers : ℕ → Turn Member
-    covers next = withCovers ws at (runFrom (coverTurn ws) (suc (length ws)) next)
-
-    no-trade : stands 5 ws at ≡ false
-    no-trade = let k6 = stands-is 6 ws at k in simp (lt-ltb at (length ws) (k6 .0), k6 .1)
-
-    written-turn : memberTurn ws at ≡ recordThen ws at writtenFaultAt covers
-    unfolding memberTurn writtenTurn
-    written-turn = simp (no-trade, k)
-
-    pub written-lacks : l ≡ true → fromMember bands ws begin t at ≡ endsWith (refused 6 at)
-    written-lacks e =
-        member-bad bands ws begin t at (s .within) 6 at (written-turn ∙ turn-lacks ws at 6 (stands-is 6 ws at k .1) writtenFaultAt covers (sym lq ∙ e)) (λ z. omega arith)
-
-    module _ (e : l ≡ false) {f : ℕ} (fq : f ≡ writtenFaultAt) where
-      pub written-wrong : (f ≡ 0 → ⊥) → fromMember bands ws begin t at ≡ endsWith (refused f at)
-      written-wrong n =
-          member-bad bands ws begin t at (s .within) f at
-          (written-turn ∙ turn-fault ws at 6 (stands-is 6 ws at k .1) writtenFaultAt covers (sym lq ∙ e) (λ z. n (fq ∙ z)) ∙ ap (λ (x : ℕ). bad x at) (sym fq)) n
-
-      module _ (z : f ≡ 0) {c : OpenCredit} (cq : c ≡ opening bands ws begin t at (s .within)) where
-        abbrev behindWritten : OpenSet
-        behindWritten = record { at = at + 6; tally = t; credit = c }
-
-        pub written-on : fromMember bands ws begin t at ≡ setAhead bands ws begin behindWritten
-        unfolding setAhead
-        written-on =
-            rw cq
-            (member-opens bands ws begin t at (s .within)
-            (written-turn ∙ turn-on ws at 6 (stands-is 6 ws at k .1) writtenFaultAt covers (sym lq ∙ e) (sym fq ∙ z)))
-
-        pub written-sound : SoundSet ws begin behindWritten × (at < at + 6)
-        written-sound =
-            rw cq (
-              record {
-                short = s .short;
-                within = omega (arith, amount-there s 6 k 5 5 lq e (omega arith));
-                small = s .small;
-                credit = λ x. record { before = omega arith; under = loss-under _ _ _ _ _ _ f fq z; covered = omega arith };
-              },
-              omega arith,
+              ),
             )

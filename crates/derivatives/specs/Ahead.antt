@@ -7,21 +7,24 @@ use mathlib.Core.List.{List, [], _∷_, _++_}
 use lib.ListN.{length}
 use Rattle.rules.specs.declared.Bands.{Bands}
 use Rattle.rules.specs.declared.Draw.{Draw}
-use Rattle.rules.specs.Word.{word, fieldOf, sizeOf}
+use Rattle.rules.specs.Word.{word, sizeOf}
 use Rattle.rules.specs.Book.{Member, total}
 use Rattle.rules.specs.Book as book
-use Rattle.rules.specs.Faults.{coverFault, derivativeSetFault}
 use Rattle.rules.specs.Run.{Run, runFrom}
-use Rattle.rules.specs.Read.{lacks, coverTurn, writtenAt, memberTurn}
+use Rattle.rules.specs.Read.{coverTurn, writtenAt, memberTurn}
 use Rattle.rules.specs.Register.{drawsFrom, drawsOf}
+use Rattle.records.specs.Readable.{Readable}
 use Rattle.derivatives.specs.declared.tally.Tally.{Tally}
 use Rattle.derivatives.specs.declared.covers.OpenCredit.{OpenCredit}
+use Rattle.derivatives.specs.declared.read.WrittenWords.{WrittenWords}
+use Rattle.derivatives.specs.declared.read.CoverWords.{CoverWords}
 use Rattle.derivatives.specs.declared.set.OpenSet.{OpenSet}
 use Rattle.derivatives.specs.declared.set.Weighed.{Weighed}
 use Rattle.derivatives.specs.declared.set.Weighed.the-variants.{Cover, Whole, Refused}
 use Rattle.derivatives.specs.declared.members.MemberStep.{MemberStep}
 use Rattle.derivatives.specs.declared.members.MemberStep.the-variants.{Next, End}
 use Rattle.derivatives.specs.declared.members.MemberStep.the-variants as step
+use Rattle.derivatives.specs.Words.{writtenWords, coverWords, writtenOf, coverOf}
 use Rattle.derivatives.specs.Gathered.{noTally, plusMembers, plusWritten}
 
 -- ---- what lies ahead
@@ -76,27 +79,29 @@ setAhead bands ws begin o = cond (o .credit .allowed) (fromCover bands ws begin 
 abbrev pub noCredit : OpenCredit
 noCredit = record { allowed = false; place = 0; covered = 0; room = 0 }
 
-unfoldable pub coverCause : List ℕ → ℕ → ℕ
-coverCause ws at = cond (lacks 1 ws at) 6 (coverFault (word ws at) (word ws (at + 1)))
-
-abbrev pub drawHere : List ℕ → (begin at : ℕ) → OpenCredit → Draw
-drawHere ws begin at c = record {
-  at = begin + at;
-  entity = fieldOf 0 16 (word ws (c .place));
-  rank = fieldOf 16 4 (word ws (c .place));
-  days = sizeOf (word ws (c .place + 4));
-  room = c .room;
-  protection = fieldOf 0 12 (word ws at);
-  amount = sizeOf (word ws (at + 1));
+abbrev pub drawOf : WrittenWords → CoverWords → (at room : ℕ) → Draw
+drawOf w c at room = record {
+  at = at;
+  entity = writtenOf w .entity;
+  rank = writtenOf w .rank;
+  days = writtenOf w .days;
+  room = room;
+  protection = coverOf c .protection;
+  amount = coverOf c .amount;
 }
+
+-- the cover at a place. The part begins at a place of the book.
+abbrev pub drawHere : List ℕ → (begin at : ℕ) → OpenCredit → Draw
+drawHere ws begin at c = drawOf (writtenWords ws (c .place)) (coverWords ws at) (begin + at) (c .room)
 
 abbrev pub plusCover : OpenCredit → (amount : ℕ) → OpenCredit
 plusCover c amount = record { allowed = true; place = c .place; covered = c .covered + amount; room = c .room - amount }
 
--- ---- the head of a set
+-- the tally with the open credit in it, now that its covers are over
+unfoldable pub closedTally : List ℕ → OpenSet → Tally
+closedTally ws o = cond (o .credit .allowed) (plusWritten (o .tally) (writtenAt ws (o .credit .place) []) (o .credit .covered)) (o .tally)
 
-unfoldable pub setCause : List ℕ → ℕ
-setCause ws = cond (lacks 3 ws 0) 6 (derivativeSetFault (word ws 0) (word ws 1) (word ws 2) (word ws 3))
+-- ---- a set whose head was read
 
 -- its members stand behind its three amounts
 abbrev pub newSet : OpenSet
@@ -119,16 +124,14 @@ pub record OpenIn (ws : List ℕ) (c : OpenCredit) (at : ℕ) : Type 0 where
 abbrev pub gatheredTo : OpenSet → ℕ
 gatheredTo o = cond (o .credit .allowed) (o .credit .place) (o .at)
 
-pub record SoundSet (ws : List ℕ) (begin : ℕ) (o : OpenSet) : Type 0 where
-  pub short : begin + length ws ≤ 2 ^ 20
-  pub within : o .at ≤ length ws
+pub record SoundSet (ws : List ℕ) (o : OpenSet) : Type 0 where
+  pub readable : Readable (o .at) ws
   pub small : TallyUpTo (o .tally) (gatheredTo o)
   pub credit : o .credit .allowed ≡ true → OpenIn ws (o .credit) (o .at)
 
 -- where a member is due, with a tally of all before
-pub record Standing (ws : List ℕ) (begin at : ℕ) (t : Tally) : Type 0 where
-  pub short : begin + length ws ≤ 2 ^ 20
-  pub within : at ≤ length ws
+pub record Standing (ws : List ℕ) (at : ℕ) (t : Tally) : Type 0 where
+  pub readable : Readable at ws
   pub small : TallyUpTo t at
 
 -- ---- the answers
@@ -140,11 +143,15 @@ stepAhead bands ws begin at (step.Cover d o) = after (d ∷ []) (setAhead bands 
 stepAhead bands ws begin at (End t) = endsWith (gathered t at)
 stepAhead bands ws begin at (step.Refused number place) = endsWith (refused number place)
 
-abbrev pub SoundStep : List ℕ → (begin at : ℕ) → MemberStep → Type 0
-SoundStep ws begin at (Next o) = SoundSet ws begin o × (at < o .at)
-SoundStep ws begin at (step.Cover d o) = SoundSet ws begin o
-SoundStep ws begin at (End t) = TallyUpTo t at
-SoundStep ws begin at (step.Refused number place) = place ≤ length ws
+abbrev pub SoundStep : List ℕ → (at : ℕ) → MemberStep → Type 0
+SoundStep ws at (Next o) = SoundSet ws o × (at < o .at)
+SoundStep ws at (step.Cover d o) = SoundSet ws o
+SoundStep ws at (End t) = TallyUpTo t at
+SoundStep ws at (step.Refused number place) = place ≤ length ws
+
+-- what stood where a member was due, wherever the set begins
+abbrev pub MemberRead : Bands → List ℕ → (at : ℕ) → Tally → MemberStep → Type 0
+MemberRead bands ws at t r = ((begin : ℕ) → fromMember bands ws begin t at ≡ stepAhead bands ws begin at r) × SoundStep ws at r
 
 -- the next cover, or the end
 abbrev pub weighedAhead : Bands → List ℕ → (begin : ℕ) → Weighed → SetAhead
@@ -152,7 +159,7 @@ weighedAhead bands ws begin (Cover d o) = after (d ∷ []) (setAhead bands ws be
 weighedAhead bands ws begin (Whole t place) = endsWith (gathered t place)
 weighedAhead bands ws begin (Refused number place) = endsWith (refused number place)
 
-abbrev pub SoundWeighed : List ℕ → (begin : ℕ) → Weighed → Type 0
-SoundWeighed ws begin (Cover d o) = SoundSet ws begin o
-SoundWeighed ws begin (Whole t place) = TallyUpTo t place × (place ≤ length ws)
-SoundWeighed ws begin (Refused number place) = place ≤ length ws
+abbrev pub SoundWeighed : List ℕ → Weighed → Type 0
+SoundWeighed ws (Cover d o) = SoundSet ws o
+SoundWeighed ws (Whole t place) = TallyUpTo t place × (place ≤ length ws)
+SoundWeighed ws (Refused number place) = place ≤ length ws

@@ -5,57 +5,11 @@ use mathlib.Core.Bool.{Bool, cond}
 use mathlib.Core.List.{List}
 use Rattle.rules.specs.declared.Bands.{Bands}
 use Rattle.rules.specs.declared.Sums.{Sums}
-use Rattle.rules.specs.Word.{fieldOf, bitOf, sizeOf, gainOf, lossOf}
-use Rattle.rules.specs.Book.{Trade, Cover, WrittenCredit, Member, DerivativeSet, total}
+use Rattle.rules.specs.Book.{WrittenCredit, Member, DerivativeSet, total}
 use Rattle.rules.specs.Weighted.{weightedOf}
 use Rattle.rules.specs.Weigh.{writtenAddOn, keptIn, gainIn, lossIn, addOnIn, uncoveredIn, writtenIn, coversIn, marginOffsets, replacementOf, weightedIn}
 use Rattle.rules.specs.Weigh as weigh
 use Rattle.derivatives.specs.declared.tally.Tally.{Tally}
-
--- ---- records by their words
-
-abbrev pub tradeOf : (w value notional days resetDays : ℕ) → Trade
-tradeOf w value notional days resetDays = record {
-  class = fieldOf 0 3 w;
-  payments = fieldOf 3 8 w;
-  resets = bitOf 11 w;
-  qualifying = bitOf 12 w;
-  gain = gainOf value;
-  loss = lossOf value;
-  notional = sizeOf notional;
-  days = sizeOf days;
-  resetDays = sizeOf resetDays;
-}
-
-abbrev pub writtenOf : (w value notional lossTaken days premiums : ℕ) → List Cover → WrittenCredit
-writtenOf w value notional lossTaken days premiums covers = record {
-  entity = fieldOf 0 16 w;
-  rank = fieldOf 16 4 w;
-  qualifying = bitOf 20 w;
-  totalReturn = bitOf 21 w;
-  closeOut = bitOf 22 w;
-  gain = gainOf value;
-  loss = lossOf value;
-  notional = sizeOf notional;
-  lossTaken = sizeOf lossTaken;
-  days = sizeOf days;
-  premiums = sizeOf premiums;
-  covers = covers;
-}
-
-abbrev pub setOf : (w received paid posted : ℕ) → List Member → DerivativeSet
-setOf w received paid posted members = record {
-  netting = bitOf 0 w;
-  notSegregated = bitOf 1 w;
-  daily = bitOf 2 w;
-  sameCurrency = bitOf 3 w;
-  fullAmount = bitOf 4 w;
-  exempt = bitOf 5 w;
-  received = sizeOf received;
-  paid = sizeOf paid;
-  posted = sizeOf posted;
-  members = members;
-}
 
 -- ---- the tally
 

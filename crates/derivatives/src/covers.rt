@@ -1,5 +1,8 @@
 // The written credit whose covers are being read, and the next of them.
 use crate::faults::cover_fault;
+use crate::read::CoverWords;
+use crate::read::WrittenWords;
+use crate::read::cover_words;
 use records::presence::lacking;
 use records::presence::standing;
 use rules::Draw;
@@ -13,12 +16,12 @@ use words::numbers::wide;
 use words::parts::field;
 ghost use mathlib.Core.Bool.{_&&_};
 ghost use mathlib.Core.Path.{_≡_};
-ghost use Prim.Native.Nat.{suc, _+_, _≤_, _<_, _^_};
-ghost use lib.ListN.{length};
+ghost use Prim.Native.Nat.{suc, _≤_, _^_};
 ghost use denote.Ref.{now};
 ghost use Rattle.rules.specs.Read.{stands};
 ghost use Rattle.records.specs.Readable.{Readable};
-ghost use Rattle.derivatives.specs.Ahead.{OpenIn, coverCause, drawHere, noCredit, plusCover};
+ghost use Rattle.derivatives.specs.Words.{coverCause};
+ghost use Rattle.derivatives.specs.Ahead.{drawOf, noCredit, plusCover};
 
 // The written credit whose covers are being read, if there is one and so covers are allowed: where its record stands, what its covers so
 // far come to, and what they leave of its notional minus loss.
@@ -60,24 +63,21 @@ pub fn cover_cause(part: &[u32], at: usize) -> u32
     if lacking(part, at, amounts::COVER) {
         return causes::WORDS_LACKING;
     }
-    cover_fault(part[at], part[at + 1])
+    cover_fault(cover_words(part, at))
 }
 
-// The cover at a place, as a draw. The part begins at a place of the book.
-pub fn draw_here(part: &[u32], begin: usize, at: usize, c: OpenCredit) -> Draw
-    requires { ⌜ OpenIn (now part) c at × ((at + 1 < length (now part)) × (begin + length (now part) ≤ 2 ^ 20)) ⌝ }
-    ensures { λ r. ⌜ r ≡ drawHere (now (part .entry)) begin at c ⌝ }
+// A cover of a written credit, as a draw: where it stands in the book, and what the covers before it leave of the credit.
+pub fn draw_here(w: WrittenWords, c: CoverWords, at: usize, room: u32) -> Draw
+    ensures { λ r. ⌜ r ≡ drawOf w c at room ⌝ }
 {
-    let place = c.place;
-    let w = part[place];
     Draw {
-        at: begin + at,
-        entity: field(w, payloads::ENTITY, payloads::ENTITY_BITS),
-        rank: field(w, payloads::RANK, payloads::RANK_BITS),
-        days: size(part[place + 4]),
-        room: c.room,
-        protection: field(part[at], payloads::COVER_PLACE, payloads::COVER_PLACE_BITS),
-        amount: size(part[at + 1]),
+        at: at,
+        entity: field(w.head, payloads::ENTITY, payloads::ENTITY_BITS),
+        rank: field(w.head, payloads::RANK, payloads::RANK_BITS),
+        days: size(w.days),
+        room: room,
+        protection: field(c.head, payloads::COVER_PLACE, payloads::COVER_PLACE_BITS),
+        amount: size(c.amount),
     }
 }
 

@@ -1,22 +1,24 @@
 // Derivative sets (document 01, records 4 to 7, "Weighing a set" and the rows 1 and 4 to 10). A set is read up to its next cover, so
 // that whoever holds the register can draw each cover as it is read.
-use crate::faults::derivative_set_fault;
+use crate::faults::set_fault;
+use crate::read::set_words;
 use records::presence::lacking;
 use rules::amounts;
 use rules::causes;
 ghost use mathlib.Core.Path.{_≡_};
 ghost use denote.Ref.{now};
 ghost use Rattle.records.specs.Readable.{Readable};
-ghost use Rattle.derivatives.specs.Ahead.{setCause};
+ghost use Rattle.derivatives.specs.Words.{setCause};
 
 pub mod covers;
 mod faults;
 mod members;
+pub mod read;
 pub mod rows;
 pub mod set;
 pub mod tally;
 
-// The number of the cause for which the head of a set is faulty, or 0.
+// The number of the cause for which the head of a set is faulty, or 0. The words begin with it.
 pub fn set_cause(part: &[u32]) -> u32
     requires { ⌜ Readable 1 (now part) ⌝ }
     ensures { λ r. ⌜ r ≡ setCause (now (part .entry)) ⌝ }
@@ -24,5 +26,5 @@ pub fn set_cause(part: &[u32]) -> u32
     if lacking(part, 0, amounts::DERIVATIVE_SET) {
         return causes::WORDS_LACKING;
     }
-    derivative_set_fault(part[0], part[1], part[2], part[3])
+    set_fault(set_words(part))
 }

@@ -6,6 +6,9 @@ use crate::covers::draw_here;
 use crate::covers::with_cover;
 use crate::faults::trade_fault;
 use crate::faults::written_fault;
+use crate::read::cover_words;
+use crate::read::trade_words;
+use crate::read::written_words;
 use crate::set::OpenSet;
 use crate::tally::Tally;
 use records::presence::lacking;
@@ -18,10 +21,15 @@ use rules::lengths;
 use words::amount::size;
 use words::parts::kind;
 ghost use mathlib.Core.Path.{_≡_};
-ghost use mathlib.Core.Bool.{true, false};
+ghost use mathlib.Core.Bool.{true};
+ghost use Prim.Native.Nat.{suc, _+_, _≤_, _^_};
+ghost use lib.ListN.{length};
 ghost use denote.Ref.{now};
+ghost use Rattle.rules.specs.declared.Bands as bands;
 ghost use Rattle.rules.specs.Read.{stands};
-ghost use Rattle.derivatives.specs.Ahead.{Standing, TallyUpTo, SoundSet, SoundStep, fromCover, fromMember, setAhead, stepAhead};
+ghost use Rattle.records.specs.Readable.{Readable};
+ghost use Rattle.derivatives.specs.Words.{tradeCause, writtenCause};
+ghost use Rattle.derivatives.specs.Ahead.{MemberRead, SoundSet, SoundStep, Standing, closedTally, fromCover, setAhead, stepAhead};
 
 // The set with one member more; the next cover, and the set behind it; no member, and the tally of all; or the number and the place of
 // the first fault.
@@ -34,22 +42,22 @@ pub enum MemberStep {
 
 // Where a credit is open its covers come first; any other record closes it.
 pub fn member(part: &[u32], begin: usize, o: OpenSet, bands: Bands) -> MemberStep
-    requires { ⌜ SoundSet (now part) begin o ⌝ }
+    requires { ⌜ SoundSet (now part) o × (begin + length (now part) ≤ 2 ^ 20) ⌝ }
     ensures { λ r. ⌜ (setAhead bands (now (part .entry)) begin o ≡ stepAhead bands (now (part .entry)) begin (o .at) r)
-        × SoundStep (now (part .entry)) begin (o .at) r ⌝ }
+        × SoundStep (now (part .entry)) (o .at) r ⌝ }
 {
     let at = o.at;
     if cover_due(part, at, o.credit) {
-        return cover(part, begin, o, bands);
+        return cover(part, begin, o);
     }
-    member_at(part, begin, at, closed(part, begin, o, bands), bands)
+    member_at(part, at, closed(part, o), bands)
 }
 
-// Kind 7. The bands decide nothing here.
-fn cover(part: &[u32], begin: usize, o: OpenSet, bands: Bands) -> MemberStep
-    requires { ⌜ SoundSet (now part) begin o × ((o .credit .allowed ≡ true) × (stands 7 (now part) (o .at) ≡ true)) ⌝ }
-    ensures { λ r. ⌜ (fromCover bands (now (part .entry)) begin (o .tally) (o .credit) (o .at) ≡ stepAhead bands (now (part .entry)) begin (o .at) r)
-        × SoundStep (now (part .entry)) begin (o .at) r ⌝ }
+// Kind 7. The set begins at a place of the book.
+fn cover(part: &[u32], begin: usize, o: OpenSet) -> MemberStep
+    requires { ⌜ (SoundSet (now part) o × (begin + length (now part) ≤ 2 ^ 20)) × ((o .credit .allowed ≡ true) × (stands 7 (now part) (o .at) ≡ true)) ⌝ }
+    ensures { λ r. ⌜ ((bands : bands.Bands) → fromCover bands (now (part .entry)) begin (o .tally) (o .credit) (o .at) ≡ stepAhead bands (now (part .entry)) begin (o .at) r)
+        × SoundStep (now (part .entry)) (o .at) r ⌝ }
 {
     let at = o.at;
     let t = o.tally;
@@ -61,7 +69,13 @@ fn cover(part: &[u32], begin: usize, o: OpenSet, bands: Bands) -> MemberStep
             place: at,
         };
     }
-    let draw = draw_here(part, begin, at, c);
+    let place = c.place;
+    let draw = draw_here(
+        written_words(part, place),
+        cover_words(part, at),
+        begin + at,
+        c.room,
+    );
     let next = OpenSet {
         at: at + lengths::COVER,
         tally: t,
@@ -71,110 +85,97 @@ fn cover(part: &[u32], begin: usize, o: OpenSet, bands: Bands) -> MemberStep
 }
 
 // The tally with the open credit in it, now that its covers are over.
-fn closed(part: &[u32], begin: usize, o: OpenSet, bands: Bands) -> Tally
-    requires { ⌜ SoundSet (now part) begin o × (o .credit .allowed ≡ true → stands 7 (now part) (o .at) ≡ false) ⌝ }
-    ensures { λ r. ⌜ (setAhead bands (now (part .entry)) begin o ≡ fromMember bands (now (part .entry)) begin r (o .at)) × TallyUpTo r (o .at) ⌝ }
+fn closed(part: &[u32], o: OpenSet) -> Tally
+    requires { ⌜ SoundSet (now part) o ⌝ }
+    ensures { λ r. ⌜ r ≡ closedTally (now (part .entry)) o ⌝ }
 {
     let c = o.credit;
     let t = o.tally;
     if c.allowed {
-        let p = c.place;
-        return t.add_written(
-            part[p],
-            part[p + 1],
-            part[p + 2],
-            part[p + 3],
-            part[p + 5],
-            c.covered,
-        );
+        let place = c.place;
+        return t.add_written(written_words(part, place), c.covered);
     }
     t
 }
 
 // What stands where a trade or a written credit is due.
-fn member_at(part: &[u32], begin: usize, at: usize, t: Tally, bands: Bands) -> MemberStep
-    requires { ⌜ Standing (now part) begin at t ⌝ }
-    ensures { λ r. ⌜ (fromMember bands (now (part .entry)) begin t at ≡ stepAhead bands (now (part .entry)) begin at r)
-        × SoundStep (now (part .entry)) begin at r ⌝ }
+fn member_at(part: &[u32], at: usize, t: Tally, bands: Bands) -> MemberStep
+    requires { ⌜ Standing (now part) at t ⌝ }
+    ensures { λ r. ⌜ MemberRead bands (now (part .entry)) at t r ⌝ }
 {
     if at >= part.len() {
         return MemberStep::End(t);
     }
     let k = kind(part[at]);
     if k == kinds::TRADE {
-        return trade(part, begin, at, t, bands);
+        return trade(part, at, t, bands);
     }
     if k == kinds::WRITTEN_CREDIT {
-        return written(part, begin, at, t, bands);
+        return written(part, at, t);
     }
     MemberStep::End(t)
 }
 
-// Kind 5.
-fn trade(part: &[u32], begin: usize, at: usize, t: Tally, bands: Bands) -> MemberStep
-    requires { ⌜ Standing (now part) begin at t × (stands 5 (now part) at ≡ true) ⌝ }
-    ensures { λ r. ⌜ (fromMember bands (now (part .entry)) begin t at ≡ stepAhead bands (now (part .entry)) begin at r)
-        × SoundStep (now (part .entry)) begin at r ⌝ }
+// The number of the cause for which the trade at a place is faulty, or 0.
+fn trade_cause(part: &[u32], at: usize) -> u32
+    requires { ⌜ Readable (suc at) (now part) ⌝ }
+    ensures { λ r. ⌜ r ≡ tradeCause (now (part .entry)) at ⌝ }
 {
     if lacking(part, at, amounts::TRADE) {
-        return MemberStep::Refused {
-            number: causes::WORDS_LACKING,
-            place: at,
-        };
+        return causes::WORDS_LACKING;
     }
-    let w = part[at];
-    let value = part[at + 1];
-    let notional = part[at + 2];
-    let days = part[at + 3];
-    let reset_days = part[at + 4];
-    let fault = trade_fault(w, value, notional, days, reset_days);
-    if fault != causes::NONE {
+    trade_fault(trade_words(part, at))
+}
+
+// Kind 5.
+fn trade(part: &[u32], at: usize, t: Tally, bands: Bands) -> MemberStep
+    requires { ⌜ Standing (now part) at t × (stands 5 (now part) at ≡ true) ⌝ }
+    ensures { λ r. ⌜ MemberRead bands (now (part .entry)) at t r ⌝ }
+{
+    let cause = trade_cause(part, at);
+    if cause != causes::NONE {
         return MemberStep::Refused {
-            number: fault,
+            number: cause,
             place: at,
         };
     }
     let next = OpenSet {
         at: at + lengths::TRADE,
-        tally: t.add_trade(bands, w, value, notional, days, reset_days),
+        tally: t.add_trade(bands, trade_words(part, at)),
         credit: OpenCredit::none(),
     };
     MemberStep::Next(next)
 }
 
-// Kind 6, which opens; its covers are read one by one. The bands decide nothing here: a written credit's factor goes by its reference.
-fn written(part: &[u32], begin: usize, at: usize, t: Tally, bands: Bands) -> MemberStep
-    requires { ⌜ Standing (now part) begin at t × (stands 6 (now part) at ≡ true) ⌝ }
-    ensures { λ r. ⌜ (fromMember bands (now (part .entry)) begin t at ≡ stepAhead bands (now (part .entry)) begin at r)
-        × SoundStep (now (part .entry)) begin at r ⌝ }
+// The number of the cause for which the written credit at a place is faulty, or 0.
+fn written_cause(part: &[u32], at: usize) -> u32
+    requires { ⌜ Readable (suc at) (now part) ⌝ }
+    ensures { λ r. ⌜ r ≡ writtenCause (now (part .entry)) at ⌝ }
 {
     if lacking(part, at, amounts::WRITTEN_CREDIT) {
+        return causes::WORDS_LACKING;
+    }
+    written_fault(written_words(part, at))
+}
+
+// Kind 6, which opens; its covers are read one by one. A written credit's factor goes by its reference, so no band decides here.
+fn written(part: &[u32], at: usize, t: Tally) -> MemberStep
+    requires { ⌜ Standing (now part) at t × (stands 6 (now part) at ≡ true) ⌝ }
+    ensures { λ r. ⌜ ((bands : bands.Bands) → MemberRead bands (now (part .entry)) at t r) ⌝ }
+{
+    let cause = written_cause(part, at);
+    if cause != causes::NONE {
         return MemberStep::Refused {
-            number: causes::WORDS_LACKING,
+            number: cause,
             place: at,
         };
     }
-    let notional = part[at + 2];
-    let loss_taken = part[at + 3];
-    let fault = written_fault(
-        part[at],
-        part[at + 1],
-        notional,
-        loss_taken,
-        part[at + 4],
-        part[at + 5],
-    );
-    if fault != causes::NONE {
-        return MemberStep::Refused {
-            number: fault,
-            place: at,
-        };
-    }
+    let w = written_words(part, at);
     let credit = OpenCredit {
         allowed: true,
         place: at,
         covered: 0,
-        room: size(notional) - size(loss_taken),
+        room: size(w.notional) - size(w.loss_taken),
     };
     let next = OpenSet {
         at: at + lengths::WRITTEN_CREDIT,

@@ -1,4 +1,5 @@
 // What a derivative set puts into the rows 1 and 4 to 10.
+use crate::read::SetWords;
 use crate::tally::Tally;
 use rules::Sums;
 use rules::payloads;
@@ -10,18 +11,17 @@ use words::numbers::wide;
 use words::parts::bit;
 use words::parts::field;
 ghost use mathlib.Core.Path.{_≡_};
-ghost use mathlib.Core.Bool.{_&&_};
-ghost use mathlib.Core.List.{[]};
 ghost use Prim.Native.Nat.{_-_, _^_, _≤_, _<_};
-ghost use Rattle.rules.specs.Word.{bitOf};
-ghost use Rattle.records.specs.Step.{SumsRoomy};
-ghost use Rattle.derivatives.specs.Gathered.{TallyFits, plusSet, replacedBy, setOf, weightedBy};
+ghost use Rattle.rules.specs.Weigh.{marginOffsets};
+ghost use Rattle.records.specs.Sums.{SumsRoomy};
+ghost use Rattle.derivatives.specs.Gathered.{TallyFits, plusSet, replacedBy, weightedBy};
+ghost use Rattle.derivatives.specs.Words.{setOf};
 
 // "bits 0 to 4 are all 1": cash margin counts as payment.
-fn margin_counts(w: u32) -> bool
-    ensures { λ r. ⌜ r ≡ (bitOf 0 w && bitOf 1 w && bitOf 2 w && bitOf 3 w && bitOf 4 w) ⌝ }
+fn margin_counts(d: SetWords) -> bool
+    ensures { λ r. ⌜ r ≡ marginOffsets (setOf d) ⌝ }
 {
-    field(w, payloads::MARGIN, payloads::MARGIN_BITS) == payloads::MARGIN_ALL
+    field(d.head, payloads::MARGIN, payloads::MARGIN_BITS) == payloads::MARGIN_ALL
 }
 
 // "Netting marked: replacement is N"; less what margin was received, where it counts. "Not marked: replacement G".
@@ -57,23 +57,23 @@ fn weighted_rest(netting: bool, gains: u64, losses: u64, x: u64, uncovered: u64,
 }
 
 // The sums with a set of these words that has gathered this tally.
-pub fn with_set(mut s: Sums, w: u32, received: u32, paid: u32, posted: u32, t: Tally) -> Sums
+pub fn with_set(mut s: Sums, d: SetWords, t: Tally) -> Sums
     requires { ⌜ SumsRoomy s × TallyFits t ⌝ }
-    ensures { λ r. ⌜ r ≡ plusSet s (setOf w received paid posted []) t ⌝ }
+    ensures { λ r. ⌜ r ≡ plusSet s (setOf d) t ⌝ }
 {
-    let netting = bit(w, payloads::SET_NETTING);
-    let counts = margin_counts(w);
-    let with_margin = t.losses + chosen(counts, wide(size(received)), 0);
+    let netting = bit(d.head, payloads::SET_NETTING);
+    let counts = margin_counts(d);
+    let with_margin = t.losses + chosen(counts, wide(size(d.received)), 0);
     let replaced = 1000 * replacement(netting, t.gains, with_margin);
     let gross = weighted_in(netting, t.gains, t.losses, t.gross);
     let kept = weighted_rest(netting, t.gains, t.losses, t.gross, t.uncovered, gross);
-    let cash_paid = 1000 * wide(size(paid));
+    let cash_paid = 1000 * wide(size(d.paid));
     s.assets = s.assets + cash_paid;
     s.replacement = s.replacement + replaced;
     s.weighted = s.weighted + gross;
-    s.posted = s.posted + 1000 * wide(size(posted));
+    s.posted = s.posted + 1000 * wide(size(d.posted));
     s.offset = s.offset + chosen(counts, cash_paid, 0);
-    s.exempt = s.exempt + chosen(bit(w, payloads::SET_EXEMPT), replaced + kept, 0);
+    s.exempt = s.exempt + chosen(bit(d.head, payloads::SET_EXEMPT), replaced + kept, 0);
     s.written = s.written + 1000 * t.written;
     s.covered = s.covered + (1000 * t.covered + (gross - kept));
     s

@@ -7,6 +7,8 @@ use rules::Bands;
 use rules::Draw;
 use rules::lengths;
 ghost use mathlib.Core.Path.{_≡_};
+ghost use Prim.Native.Nat.{_+_, _≤_, _^_};
+ghost use lib.ListN.{length};
 ghost use denote.Ref.{now};
 ghost use Rattle.derivatives.specs.Ahead.{SoundSet, SoundWeighed, newSet, setAhead, weighedAhead};
 
@@ -41,9 +43,9 @@ impl OpenSet {
 
 // The words of a set from its head on, which stands at a place of the book.
 pub fn weigh(part: &[u32], begin: usize, from: OpenSet, bands: Bands) -> Weighed
-    requires { ⌜ SoundSet (now part) begin from ⌝ }
+    requires { ⌜ SoundSet (now part) from × (begin + length (now part) ≤ 2 ^ 20) ⌝ }
     ensures { λ r. ⌜ (setAhead bands (now (part .entry)) begin from ≡ weighedAhead bands (now (part .entry)) begin r)
-        × SoundWeighed (now (part .entry)) begin r ⌝ }
+        × SoundWeighed (now (part .entry)) r ⌝ }
 {
     let mut o = from;
     loop {

@@ -1,4 +1,3 @@
-pub mod Causes
 pub mod DayByDay
 pub mod Order
 pub mod SetSteps

@@ -16,7 +16,7 @@ use Rattle.rules.proofs.Lists.{or-left, or-right}
 use Rattle.theorems.proofs.Records.{stands-is}
 use Rattle.theorems.proofs.Valid.{cause-none}
 use Rattle.financing.specs.Netting.{NeverFall}
-use Rattle.financing.specs.Weighing.{ownFaultAt}
+use Rattle.financing.specs.Words.{financingTradeWords, financingTradeFaultOf}
 
 module _ (ws : List ℕ) where
   -- ---- the days of the trade before
@@ -45,7 +45,7 @@ module _ (ws : List ℕ) where
   InOrder at (bad number place) = Unit {0}
   InOrder at (some t number next) = (lastDaysAt ws at ≤ t .days) × (lastDaysAt ws next ≡ t .days)
 
-  not-fallen : (agent : Bool) (last at : ℕ) → ownFaultAt agent last ws at ≡ 0 → last ≤ sizeOf (word ws (at + 7))
+  not-fallen : (agent : Bool) (last at : ℕ) → financingTradeFaultOf agent last (financingTradeWords ws at) ≡ 0 → last ≤ sizeOf (word ws (at + 7))
   unfolding financingTradeFault
   not-fallen agent last at e =
       let a = cause-none 6 _ _ e .1 in
@@ -58,7 +58,7 @@ module _ (ws : List ℕ) where
   trade-in-order at k = rw k (absent (lacks 7 ws at) refl)
     where
       fault : ℕ
-      fault = ownFaultAt (bitOf 1 (word ws 0)) (lastDaysAt ws at) ws at
+      fault = financingTradeFaultOf (bitOf 1 (word ws 0)) (lastDaysAt ws at) (financingTradeWords ws at)
 
       own : (f : ℕ) → fault ≡ f → lacks 7 ws at ≡ false → InOrder at (sound f at (some (financingTradeAt ws at) 0 (at + 8)))
       own zero e l = (not-fallen (bitOf 1 (word ws 0)) (lastDaysAt ws at) at e, days-behind at l)

@@ -1,11 +1,11 @@
 -- A financing set by its tally: what it puts into the sums, that this fits, and what each way out of the set's function returns.
 -- Assumes nothing.
 use Prim.Native.Nat.{ℕ, zero, suc, _-_, _^_, _≤_}
-use mathlib.Core.Path.{_≡_, refl, sym, _∙_, ap, ap₂}
+use mathlib.Core.Path.{_≡_, refl, sym, _∙_, ap}
 use mathlib.Core.Bool.{Bool, true, false}
 use mathlib.Core.List.{List}
 use native.Mathlib.Omega.{arith}
-use native.Mathlib.Nat.{add-zero, zero-add}
+use native.Mathlib.Nat.{add-zero}
 use lib.ListN.{length}
 use Rattle.rules.specs.declared.Bands.{Bands}
 use Rattle.rules.specs.declared.Sums.{Sums}
@@ -19,6 +19,7 @@ use Rattle.rules.proofs.Lists.{total-le-all}
 use Rattle.rules.proofs.Runs.{fine-run}
 use Rattle.records.specs.Readable.{Readable}
 use Rattle.records.specs.Step.{plusItem, itemStep}
+use Rattle.records.specs.declared.ItemStep.{ItemStep}
 use Rattle.records.specs.declared.ItemStep.the-variants.{Next}
 use Rattle.records.specs.declared.ItemStep.the-variants as item
 use Rattle.records.proofs.Words.{turn-fault, turn-on}
@@ -39,95 +40,79 @@ excess-most false t h = h
 -- ---- a tally from nothing on
 
 module _ (ts : List FinancingTrade) where
-  first-assets : tallyFrom noTally ts .assets ≡ total (λ (x : FinancingTrade). x .asset - x .securities) ts
-  first-assets = tally-assets noTally ts ∙ zero-add _
-
-  first-lent : tallyFrom noTally ts .lent ≡ total (λ (x : FinancingTrade). x .lent) ts
-  first-lent = tally-lent noTally ts ∙ zero-add _
-
-  first-received : tallyFrom noTally ts .received ≡ total (λ (x : FinancingTrade). x .received) ts
-  first-received = tally-received noTally ts ∙ zero-add _
-
-  first-excess : tallyFrom noTally ts .excess ≡ total (λ (x : FinancingTrade). x .lent - x .received) ts
-  first-excess = tally-excess noTally ts ∙ zero-add _
-
   -- the sums with the set, by its tally
   plus-is : (bands : Bands) (s : Sums) (ws : List ℕ) → NeverFall 0 ts
       → plusSet s (tallyFrom noTally ts) (word ws 0) ≡ plusItem bands s (financing (financingSetAt ws ts))
   unfolding plusSet financingSetAt excessOf
-  plus-is bands s ws h = simp (add-zero, first-assets, first-lent, first-received, first-excess, tally-netted ts h)
+  plus-is bands s ws h = simp (add-zero, tally-assets, tally-lent, tally-received, tally-excess, tally-netted ts h)
 
   light : NeverFall 0 ts → total financingWeight ts ≤ 2 ^ 61 → TallyFits (tallyFrom noTally ts)
   light h l = record {
     assets = omega (
       arith,
-      first-assets,
+      tally-assets ts,
       financing-total ts,
       total-le-all (λ (x : FinancingTrade). x .asset - x .securities) (λ (x : FinancingTrade). x .asset) (λ x. omega arith) ts,
     );
     netted = omega (arith, tally-netted ts h, netted-at-most ts, financing-total ts);
-    lent = omega (arith, first-lent, financing-total ts);
+    lent = omega (arith, tally-lent ts, financing-total ts);
     excess = omega (
       arith,
-      first-lent,
-      first-excess,
+      tally-lent ts,
+      tally-excess ts,
       total-le-all (λ (x : FinancingTrade). x .lent - x .received) (λ (x : FinancingTrade). x .lent) (λ x. omega arith) ts,
     );
   }
 
 -- ---- the set
 
-module _ (bands : Bands) (s : Sums) (ws : List ℕ) (p : Readable 1 ws) (k : kindOf (word ws 0) ≡ 8) where
-  behind : ℕ → Turn Item
-  behind next = withTrades ws (runFrom (financingMemberTurn ws) (suc (length ws)) next)
+-- what is returned, by what the trades come to
+abbrev stepOf : Sums → (w : ℕ) → Weighed → ItemStep
+stepOf s w (Whole t next) = Next (plusSet s t w) next
+stepOf s w (Refused number place) = item.Refused number place
 
-  module _ (f : ℕ) (fq : f ≡ financingSetFault (word ws 0)) where
-    pub set-faulty : (f ≡ 0 → ⊥) → item.Refused f 0 ≡ itemStep bands s (financingSetTurn ws)
-    unfolding financingSetTurn lacks behind
-    set-faulty n =
-        ap (λ (x : ℕ). item.Refused x 0) fq
-        ∙ sym (ap (λ (t : Turn Item). itemStep bands s t) (turn-fault ws 0 8 k (financingSetFault (word ws 0)) behind refl (λ z. n (fq ∙ z))))
+abbrev FitsIn : Weighed → Type 0
+FitsIn (Whole t next) = TallyFits t
+FitsIn (Refused number place) = Unit {0}
 
-    module _ (z : f ≡ 0) where
-      trades-read : financingSetTurn ws ≡ withTrades ws (tradesOf ws)
-      unfolding financingSetTurn lacks behind
-      trades-read = turn-on ws 0 8 k (financingSetFault (word ws 0)) behind refl (sym fq ∙ z)
+module _ (ws : List ℕ) (k : kindOf (word ws 0) ≡ 8) where
+  fall : NeverFall 0 (tradesOf ws .records)
+  fall = never-fall ws k (suc (length ws))
 
-      module _ (r : Weighed) (rq : r ≡ weighedOf noTally (tradesOf ws)) where
-        pub set-refused : (number place : ℕ) → r ≡ Refused number place → item.Refused number place ≡ itemStep bands s (financingSetTurn ws)
-        set-refused number place e =
-            go (tradesOf ws .records) (tradesOf ws .number) (tradesOf ws .place) (sym rq ∙ e) ∙ sym (ap (λ (t : Turn Item). itemStep bands s t) trades-read)
+  module _ (r : Weighed) (rq : r ≡ weighedOf noTally (tradesOf ws)) where
+    pub set-fits : Readable 1 ws → (t : FinancingTally) (next : ℕ) → r ≡ Whole t next → TallyFits t
+    set-fits p t next e =
+        let b = fine-run (length ws) perWord financingWeight (financingMemberTurn ws) (fine-financing-member ws) (suc (length ws)) 1 (p .within) in
+        let l : total financingWeight (tradesOf ws .records) ≤ 2 ^ 61 = omega (arith, b .small, b .within, p .short) in
+        rw (sym rq ∙ e) at (go (tradesOf ws .number) (tradesOf ws .place) (light (tradesOf ws .records) fall l))
+      where
+        go : {u : FinancingTally} (n q : ℕ) → TallyFits u → FitsIn (weighedTo u n q)
+        go zero q h = h
+        go (suc n) q h = tt
+
+    module _ (bands : Bands) (s : Sums) (f : ℕ) (fq : f ≡ financingSetFault (word ws 0)) where
+      behind : ℕ → Turn Item
+      behind next = withTrades ws (runFrom (financingMemberTurn ws) (suc (length ws)) next)
+
+      module _ (z : f ≡ 0) where
+        step-is : stepOf s (word ws 0) r ≡ itemStep bands s (financingSetTurn ws)
+        unfolding financingSetTurn lacks behind
+        step-is =
+            ap (stepOf s (word ws 0)) rq ∙ go (tradesOf ws .number)
+            ∙ sym (ap (itemStep bands s) (turn-on ws 0 8 k (financingSetFault (word ws 0)) behind refl (sym fq ∙ z)))
           where
-            go : (ts : List FinancingTrade) (n q : ℕ) → weighedTo (tallyFrom noTally ts) n q ≡ Refused number place
-                → item.Refused number place ≡ itemStep bands s (some (financing (financingSetAt ws ts)) n q)
-            go ts zero q w = let y : _≡_ {A = ℕ} 0 1 = cc in absurd (omega arith)
-            go ts (suc n) q w = cc
+            go : (n : ℕ) → stepOf s (word ws 0) (weighedTo (tallyFrom noTally (tradesOf ws .records)) n (tradesOf ws .place))
+                ≡ itemStep bands s (some (financing (financingSetAt ws (tradesOf ws .records))) n (tradesOf ws .place))
+            go zero = ap (λ (x : Sums). Next x (tradesOf ws .place)) (plus-is (tradesOf ws .records) bands s ws fall)
+            go (suc n) = refl
 
-        module _ (t : FinancingTally) (next : ℕ) (e : r ≡ Whole t next) where
-          fall : NeverFall 0 (tradesOf ws .records)
-          fall = never-fall ws k (suc (length ws))
+        pub set-refused : (number place : ℕ) → r ≡ Refused number place → item.Refused number place ≡ itemStep bands s (financingSetTurn ws)
+        set-refused number place e = ap (stepOf s (word ws 0)) (sym e) ∙ step-is
 
-          tally-is : tallyFrom noTally (tradesOf ws .records) ≡ t
-          tally-is = go (tradesOf ws .records) (tradesOf ws .number) (tradesOf ws .place) (sym rq ∙ e)
-            where
-              go : (ts : List FinancingTrade) (n q : ℕ) → weighedTo (tallyFrom noTally ts) n q ≡ Whole t next → tallyFrom noTally ts ≡ t
-              go ts zero q w = cc
-              go ts (suc n) q w = let y : _≡_ {A = ℕ} 0 1 = cc in absurd (omega arith)
+        pub set-whole : (t : FinancingTally) (next : ℕ) → r ≡ Whole t next → (u : Sums) → u ≡ plusSet s t (word ws 0) → Next u next ≡ itemStep bands s (financingSetTurn ws)
+        set-whole t next e u uq = ap (λ (x : Sums). Next x next) uq ∙ ap (stepOf s (word ws 0)) (sym e) ∙ step-is
 
-          pub set-fits : TallyFits t
-          set-fits =
-              let b = fine-run (length ws) perWord financingWeight (financingMemberTurn ws) (fine-financing-member ws) (suc (length ws)) 1 (p .within) in
-              let l : total financingWeight (tradesOf ws .records) ≤ 2 ^ 61 = omega (arith, b .small, b .within, p .short) in
-              rw tally-is at (light (tradesOf ws .records) fall l)
-
-          pub set-whole : (u : Sums) → u ≡ plusSet s t (word ws 0) → Next u next ≡ itemStep bands s (financingSetTurn ws)
-          set-whole u uq =
-              go (tradesOf ws .records) (tradesOf ws .number) (tradesOf ws .place) fall tally-is (sym rq ∙ e)
-              ∙ sym (ap (λ (x : Turn Item). itemStep bands s x) trades-read)
-            where
-              go : (ts : List FinancingTrade) (n q : ℕ) → NeverFall 0 ts → tallyFrom noTally ts ≡ t → weighedTo (tallyFrom noTally ts) n q ≡ Whole t next
-                  → Next u next ≡ itemStep bands s (some (financing (financingSetAt ws ts)) n q)
-              go ts zero q h a w =
-                  let b : next ≡ q = cc in
-                  ap₂ (λ (x : Sums) (y : ℕ). Next x y) (uq ∙ ap (λ (x : FinancingTally). plusSet s x (word ws 0)) (sym a) ∙ plus-is ts bands s ws h) b
-              go ts (suc n) q h a w = let y : _≡_ {A = ℕ} 0 1 = cc in absurd (omega arith)
+  pub set-faulty : (bands : Bands) (s : Sums) (f : ℕ) → f ≡ financingSetFault (word ws 0) → (f ≡ 0 → ⊥) → item.Refused f 0 ≡ itemStep bands s (financingSetTurn ws)
+  unfolding financingSetTurn lacks
+  set-faulty bands s f fq n =
+      ap (λ (x : ℕ). item.Refused x 0) fq ∙ sym (ap (itemStep bands s) (turn-fault ws 0 8 k (financingSetFault (word ws 0)) _ refl (λ z. n (fq ∙ z))))

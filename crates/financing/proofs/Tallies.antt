@@ -1,6 +1,6 @@
 -- The tally of a set's trades: its sums are those of the definitions, and its cash is that of the days one after the other.
 -- Assumes nothing.
-use Prim.Native.Nat.{_+_, _-_, min}
+use Prim.Native.Nat.{ℕ, _+_, _-_, min}
 use mathlib.Core.Path.{_≡_, refl, sym, _∙_}
 use mathlib.Core.Bool.{Bool, true, false, cond}
 use mathlib.Core.List.{List, [], _∷_}
@@ -17,25 +17,32 @@ use Rattle.financing.proofs.DayByDay.{day-by-day}
 
 -- ---- sums
 
-pub tally-assets : (t : FinancingTally) (ts : List FinancingTrade) → tallyFrom t ts .assets ≡ t .assets + total (λ (x : FinancingTrade). x .asset - x .securities) ts
-unfolding tallyFrom tallied settled
-tally-assets t [] = sym (add-zero (t .assets))
-tally-assets t (x ∷ xs) = omega (arith, tally-assets (tallied t x) xs)
+-- what each trade adds to, from nothing on
+module _ (sum : FinancingTally → ℕ) (f : FinancingTrade → ℕ) (none : sum noTally ≡ 0) (one : (t : FinancingTally) (x : FinancingTrade) → sum (tallied t x) ≡ sum t + f x) where
+  onto : (t : FinancingTally) (ts : List FinancingTrade) → sum (tallyFrom t ts) ≡ sum t + total f ts
+  unfolding tallyFrom
+  onto t [] = sym (add-zero (sum t))
+  onto t (x ∷ xs) = omega (arith, onto (tallied t x) xs, one t x)
 
-pub tally-lent : (t : FinancingTally) (ts : List FinancingTrade) → tallyFrom t ts .lent ≡ t .lent + total (λ (x : FinancingTrade). x .lent) ts
-unfolding tallyFrom tallied settled
-tally-lent t [] = sym (add-zero (t .lent))
-tally-lent t (x ∷ xs) = omega (arith, tally-lent (tallied t x) xs)
+  tally-total : (ts : List FinancingTrade) → sum (tallyFrom noTally ts) ≡ total f ts
+  tally-total ts = omega (arith, onto noTally ts, none)
 
-pub tally-received : (t : FinancingTally) (ts : List FinancingTrade) → tallyFrom t ts .received ≡ t .received + total (λ (x : FinancingTrade). x .received) ts
-unfolding tallyFrom tallied settled
-tally-received t [] = sym (add-zero (t .received))
-tally-received t (x ∷ xs) = omega (arith, tally-received (tallied t x) xs)
+module _ (ts : List FinancingTrade) where
+  pub tally-assets : tallyFrom noTally ts .assets ≡ total (λ (x : FinancingTrade). x .asset - x .securities) ts
+  unfolding tallied settled
+  tally-assets = tally-total (λ t. t .assets) (λ x. x .asset - x .securities) refl (λ t x. refl) ts
 
-pub tally-excess : (t : FinancingTally) (ts : List FinancingTrade) → tallyFrom t ts .excess ≡ t .excess + total (λ (x : FinancingTrade). x .lent - x .received) ts
-unfolding tallyFrom tallied settled
-tally-excess t [] = sym (add-zero (t .excess))
-tally-excess t (x ∷ xs) = omega (arith, tally-excess (tallied t x) xs)
+  pub tally-lent : tallyFrom noTally ts .lent ≡ total (λ (x : FinancingTrade). x .lent) ts
+  unfolding tallied settled
+  tally-lent = tally-total (λ t. t .lent) (λ x. x .lent) refl (λ t x. refl) ts
+
+  pub tally-received : tallyFrom noTally ts .received ≡ total (λ (x : FinancingTrade). x .received) ts
+  unfolding tallied settled
+  tally-received = tally-total (λ t. t .received) (λ x. x .received) refl (λ t x. refl) ts
+
+  pub tally-excess : tallyFrom noTally ts .excess ≡ total (λ (x : FinancingTrade). x .lent - x .received) ts
+  unfolding tallied settled
+  tally-excess = tally-total (λ t. t .excess) (λ x. x .lent - x .received) refl (λ t x. refl) ts
 
 -- ---- cash
 

@@ -8,52 +8,40 @@ use lib.Dec.{eqb}
 use lib.ListN.{length}
 use Rattle.rules.specs.Word.{word, kindOf, bitOf, sizeOf}
 use Rattle.rules.specs.Book.{FinancingTrade}
-use Rattle.rules.specs.Run.{over, bad, some, Run, withOne}
-use Rattle.rules.specs.Faults.{cause}
+use Rattle.rules.specs.Run.{bad, some, Run, withOne}
 use Rattle.rules.specs.Read.{lacks, stands, lastDaysAt, financingTradeAt, financingTradeTurn, financingMemberTurn}
 use Rattle.rules.proofs.Along.{Along, along-start, along-over, along-bad, along-one}
-use Rattle.theorems.proofs.Records.{lacks-room}
-use Rattle.records.proofs.Words.{turn-lacks, turn-fault, turn-on}
-use Rattle.theorems.proofs.Records.{stands-is}
+use Rattle.records.specs.Cause.{recordCause}
+use Rattle.records.proofs.Words.{record-faulty, record-good}
+use Rattle.theorems.proofs.Records.{stands-is, lacks-room}
 use Rattle.financing.specs.declared.tally.FinancingTally.{FinancingTally}
 use Rattle.financing.specs.declared.trades.Weighed.the-variants.{Whole, Refused}
-use Rattle.financing.specs.Weighing.{noTally, settled, tallied, tallyFrom, weighedTo, weighedOf, tradesOf, ownFaultAt, tradeFaultAt, TallyRoomy}
+use Rattle.financing.specs.Weighing.{noTally, settled, tallied, tallyFrom, weighedTo, weighedOf, tradesOf, tallySum, TallyRoomy}
+use Rattle.financing.specs.declared.read.FinancingTradeWords.{FinancingTradeWords}
+use Rattle.financing.specs.Words.{financingTradeWords, financingTradeOf, financingTradeFaultOf, financingTradeCause}
 use Rattle.financing.proofs.Order.{days-first, days-behind}
+
+-- the words at a place are the record there
+as-read : (ws : List ℕ) (at : ℕ) → financingTradeOf (financingTradeWords ws at) ≡ financingTradeAt ws at
+unfolding financingTradeAt
+as-read ws at = refl
 
 -- a tally at a place of the part: what is left weighs to the whole, its day is that of the trade before, and its sums are small
 pub record AtTrade (ws : List ℕ) (t : FinancingTally) (at : ℕ) : Type 0 where
   pub along : Along (length ws) (financingMemberTurn ws) weighedOf (weighedOf noTally (tradesOf ws)) t at
   pub day : t .day ≡ lastDaysAt ws at
-  pub assets : t .assets ≤ 2 ^ 27 * at
-  pub lent : t .lent ≤ 2 ^ 27 * at
-  pub received : t .received ≤ 2 ^ 27 * at
-  pub excess : t .excess ≤ 2 ^ 27 * at
-  pub cash : t .closed + t .receivable ≤ 2 ^ 27 * at
-  pub payable : t .payable ≤ 2 ^ 27 * at
+  pub small : tallySum t ≤ 2 ^ 27 * at
 
 pub at-first : (ws : List ℕ) (t : FinancingTally) → 0 < length ws → kindOf (word ws 0) ≡ 8 → t ≡ noTally → AtTrade ws t 1
-at-first ws t h k e = record {
-  along = along-start (length ws) (financingMemberTurn ws) weighedOf _ t 1 h (ap (λ (x : FinancingTally). weighedOf x (tradesOf ws)) (sym e));
-  day = ap (λ (x : FinancingTally). x .day) e ∙ sym (days-first ws k);
-  assets = omega (arith, ap (λ (x : FinancingTally). x .assets) e);
-  lent = omega (arith, ap (λ (x : FinancingTally). x .lent) e);
-  received = omega (arith, ap (λ (x : FinancingTally). x .received) e);
-  excess = omega (arith, ap (λ (x : FinancingTally). x .excess) e);
-  cash = omega (arith, ap (λ (x : FinancingTally). x .closed + x .receivable) e);
-  payable = omega (arith, ap (λ (x : FinancingTally). x .payable) e);
-}
+at-first ws t h k e = rw e (record {
+  along = along-start (length ws) (financingMemberTurn ws) weighedOf _ noTally 1 h refl;
+  day = sym (days-first ws k);
+  small = omega arith;
+})
 
 module _ (ws : List ℕ) (t : FinancingTally) (at : ℕ) (i : AtTrade ws t at) where
   pub tally-roomy : length ws ≤ 2 ^ 20 → TallyRoomy t
-  tally-roomy h = record {
-    assets = omega (arith, i .assets, i .along .within);
-    lent = omega (arith, i .lent, i .along .within);
-    received = omega (arith, i .received, i .along .within);
-    excess = omega (arith, i .excess, i .along .within);
-    closed = omega (arith, i .cash, i .along .within);
-    receivable = omega (arith, i .cash, i .along .within);
-    payable = omega (arith, i .payable, i .along .within);
-  }
+  tally-roomy h = omega (arith, i .along .within)
 
   module _ (r : Bool) (rq : r ≡ stands 9 ws at) where
     -- no trade stands here
@@ -73,25 +61,18 @@ module _ (ws : List ℕ) (t : FinancingTally) (at : ℕ) (i : AtTrade ws t at) w
       here = simp (← rq, e)
 
       fault : ℕ
-      fault = ownFaultAt (bitOf 1 (word ws 0)) (lastDaysAt ws at) ws at
+      fault = financingTradeFaultOf (bitOf 1 (word ws 0)) (lastDaysAt ws at) (financingTradeWords ws at)
 
-      module _ (agent : Bool) (aq : agent ≡ bitOf 1 (word ws 0)) (f : ℕ) (fq : f ≡ tradeFaultAt agent (t .day) ws at) where
-        fault-is : f ≡ cause 6 (lacks 7 ws at) fault
+      module _ (agent : Bool) (aq : agent ≡ bitOf 1 (word ws 0)) (f : ℕ) (fq : f ≡ financingTradeCause agent (t .day) ws at) where
+        fault-is : f ≡ recordCause 7 ws at fault
         unfolding fault
-        fault-is = fq ∙ ap₂ (λ (b : Bool) (d : ℕ). tradeFaultAt b d ws at) aq (i .day)
+        fault-is = fq ∙ ap₂ (λ (b : Bool) (d : ℕ). financingTradeCause b d ws at) aq (i .day)
 
         -- a faulty trade stands here
-        trade-bad : (f ≡ 0 → ⊥) → financingTradeTurn ws at ≡ bad f at
-        unfolding financingTradeTurn fault cause
-        trade-bad n = go (lacks 7 ws at) refl fault-is
-          where
-            go : (b : Bool) → lacks 7 ws at ≡ b → f ≡ cond b 6 fault → financingTradeTurn ws at ≡ bad f at
-            go true l q = turn-lacks ws at 9 (there .1) fault (some (financingTradeAt ws at) 0) l ∙ ap (λ (x : ℕ). bad x at) (sym q)
-            go false l q = turn-fault ws at 9 (there .1) fault (some (financingTradeAt ws at) 0) l (λ z. n (q ∙ z)) ∙ ap (λ (x : ℕ). bad x at) (sym q)
-
         pub trade-stop : (f ≡ 0 → ⊥) → Refused f at ≡ weighedOf noTally (tradesOf ws)
-        unfolding tallyFrom
-        trade-stop n = go f n ∙ along-bad (length ws) (financingMemberTurn ws) weighedOf _ t at (i .along) f at (here ∙ trade-bad n)
+        unfolding tallyFrom financingTradeTurn fault
+        trade-stop n = go f n ∙ along-bad (length ws) (financingMemberTurn ws) weighedOf _ t at (i .along) f at
+            (here ∙ record-faulty ws at 9 (there .1) fault (some (financingTradeAt ws at) 0) (λ z. n (fault-is ∙ z)) ∙ ap (λ (x : ℕ). bad x at) (sym fault-is))
           where
             go : (g : ℕ) → (g ≡ 0 → ⊥) → Refused g at ≡ weighedTo t g at
             go zero m = absurd (m refl)
@@ -99,60 +80,42 @@ module _ (ws : List ℕ) (t : FinancingTally) (at : ℕ) (i : AtTrade ws t at) w
 
         -- a trade without a fault
         module _ (z : f ≡ 0) where
-          sound-trade : (lacks 7 ws at ≡ false) × (fault ≡ 0)
-          unfolding cause
-          sound-trade = go (lacks 7 ws at) refl (sym z ∙ fault-is)
-            where
-              go : (b : Bool) → lacks 7 ws at ≡ b → 0 ≡ cond b 6 fault → (lacks 7 ws at ≡ false) × (fault ≡ 0)
-              go true l q = let y : ⊥ = omega arith in absurd y
-              go false l q = (l, sym q)
-
-          pub trade-room : at + 7 < length ws
-          trade-room = lacks-room 7 ws at (sound-trade .0) (there .0)
-
-          on : financingTradeTurn ws at ≡ some (financingTradeAt ws at) 0 (at + 8)
+          good : (lacks 7 ws at ≡ false) × (financingTradeTurn ws at ≡ some (financingTradeAt ws at) 0 (at + 8))
           unfolding financingTradeTurn fault
-          on = turn-on ws at 9 (there .1) fault (some (financingTradeAt ws at) 0) (sound-trade .0) (sound-trade .1)
+          good = record-good ws at 9 (there .1) fault (some (financingTradeAt ws at) 0) (sym fault-is ∙ z)
 
-          module _ (u : FinancingTally) (q : u ≡ tallied t (financingTradeAt ws at)) where
+          pub trade-room : at + 8 ≤ length ws
+          trade-room = omega (arith, lacks-room 7 ws at (good .0) (there .0))
+
+          pub trade-less : length ws - (at + 8) < length ws - at
+          trade-less = omega (arith, trade-room)
+
+          module _ (w : FinancingTradeWords) (wq : w ≡ financingTradeWords ws at) (u : FinancingTally) (uq : u ≡ tallied t (financingTradeOf w)) where
+            q : u ≡ tallied t (financingTradeAt ws at)
+            q = uq ∙ ap (λ (x : FinancingTradeWords). tallied t (financingTradeOf x)) wq ∙ ap (tallied t) (as-read ws at)
+
             added : (x : Run FinancingTrade) → weighedOf t (withOne (financingTradeAt ws at) x) ≡ weighedOf u x
             unfolding tallyFrom
             added x = ap (λ (y : FinancingTally). weighedOf y x) (sym q)
 
             -- the cash of a closed day and that of a new one
-            cash-step : (b m : Bool) (closed receivable payable more : ℕ)
-                → closed + cond b 0 (min receivable payable) + (cond b receivable 0 + cond m more 0) ≤ closed + receivable + more
-            cash-step true true closed receivable payable more = omega arith
-            cash-step true false closed receivable payable more = omega arith
-            cash-step false true closed receivable payable more = omega arith
-            cash-step false false closed receivable payable more = omega arith
-
-            owed-step : (b m : Bool) (payable more : ℕ) → cond b payable 0 + cond m more 0 ≤ payable + more
-            owed-step true true payable more = omega arith
-            owed-step true false payable more = omega arith
-            owed-step false true payable more = omega arith
-            owed-step false false payable more = omega arith
+            cash-step : (b m : Bool) (closed receivable payable more owing : ℕ)
+                → closed + cond b 0 (min receivable payable) + (cond b receivable 0 + cond m more 0) + (cond b payable 0 + cond m owing 0) ≤ closed + receivable + payable + more + owing
+            cash-step true true closed receivable payable more owing = omega arith
+            cash-step true false closed receivable payable more owing = omega arith
+            cash-step false true closed receivable payable more owing = omega arith
+            cash-step false false closed receivable payable more owing = omega arith
 
             pub trade-next : AtTrade ws u (at + 8)
             unfolding tallied settled financingTradeAt
             trade-next = record {
               along = along-one (length ws) (financingMemberTurn ws) weighedOf _ t at (i .along) (financingTradeAt ws at) (at + 8) u
-                  (here ∙ on) (omega arith) (omega (arith, trade-room)) added;
-              day = ap (λ (x : FinancingTally). x .day) q ∙ sym (days-behind ws at (sound-trade .0));
-              assets = omega (arith, ap (λ (x : FinancingTally). x .assets) q, i .assets);
-              lent = omega (arith, ap (λ (x : FinancingTally). x .lent) q, i .lent);
-              received = omega (arith, ap (λ (x : FinancingTally). x .received) q, i .received);
-              excess = omega (arith, ap (λ (x : FinancingTally). x .excess) q, i .excess);
-              cash = omega (
+                  (here ∙ good .1) (omega arith) trade-room added;
+              day = ap (λ (x : FinancingTally). x .day) q ∙ sym (days-behind ws at (good .0));
+              small = omega (
                 arith,
-                ap (λ (x : FinancingTally). x .closed + x .receivable) q,
-                cash-step (eqb (sizeOf (word ws (at + 7))) (t .day)) (bitOf 0 (word ws at)) (t .closed) (t .receivable) (t .payable) (sizeOf (word ws (at + 3))),
-                i .cash,
-              );
-              payable = omega (
-                arith,
-                ap (λ (x : FinancingTally). x .payable) q,
-                owed-step (eqb (sizeOf (word ws (at + 7))) (t .day)) (bitOf 0 (word ws at)) (t .payable) (sizeOf (word ws (at + 4))),
-                i .payable,
+                ap tallySum q,
+                cash-step (eqb (sizeOf (word ws (at + 7))) (t .day)) (bitOf 0 (word ws at)) (t .closed) (t .receivable) (t .payable) (sizeOf (word ws (at + 3))) (sizeOf (word ws (at + 4))),
+                i .small,
               );
             }

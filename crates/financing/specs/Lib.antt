@@ -1,2 +1,3 @@
 pub mod Netting
 pub mod Weighing
+pub mod Words

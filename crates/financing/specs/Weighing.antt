@@ -6,38 +6,13 @@ use mathlib.Core.List.{List, [], _∷_}
 use lib.Dec.{eqb}
 use lib.ListN.{length}
 use Rattle.rules.specs.declared.Sums.{Sums}
-use Rattle.rules.specs.Word.{word, bitOf, sizeOf}
+use Rattle.rules.specs.Word.{bitOf}
 use Rattle.rules.specs.Book.{FinancingTrade}
 use Rattle.rules.specs.Run.{Run, runFrom}
-use Rattle.rules.specs.Faults.{cause, financingTradeFault}
-use Rattle.rules.specs.Read.{lacks, financingMemberTurn}
+use Rattle.rules.specs.Read.{financingMemberTurn}
 use Rattle.financing.specs.declared.tally.FinancingTally.{FinancingTally}
 use Rattle.financing.specs.declared.trades.Weighed.{Weighed}
 use Rattle.financing.specs.declared.trades.Weighed.the-variants.{Whole, Refused}
-
--- ---- one trade
-
--- a trade of these words
-abbrev pub tradeOf : (w asset securities receivable payable lent received days : ℕ) → FinancingTrade
-tradeOf w asset securities receivable payable lent received days = record {
-  netSettled = bitOf 0 w;
-  asset = sizeOf asset;
-  securities = sizeOf securities;
-  receivable = sizeOf receivable;
-  payable = sizeOf payable;
-  lent = sizeOf lent;
-  received = sizeOf received;
-  days = sizeOf days;
-}
-
--- the number of the first fault of the trade at a place, or 0: by the words that it lacks, and by the words that it has
-abbrev pub ownFaultAt : (agent : Bool) (lastDays : ℕ) → List ℕ → ℕ → ℕ
-ownFaultAt agent lastDays ws at =
-    financingTradeFault agent lastDays (word ws at) (word ws (at + 1)) (word ws (at + 2)) (word ws (at + 3))
-    (word ws (at + 4)) (word ws (at + 5)) (word ws (at + 6)) (word ws (at + 7))
-
-abbrev pub tradeFaultAt : (agent : Bool) (lastDays : ℕ) → List ℕ → ℕ → ℕ
-tradeFaultAt agent lastDays ws at = cause 6 (lacks 7 ws at) (ownFaultAt agent lastDays ws at)
 
 -- ---- the tally
 
@@ -45,16 +20,16 @@ abbrev pub noTally : FinancingTally
 noTally = record { assets = 0; lent = 0; received = 0; excess = 0; closed = 0; day = 0; receivable = 0; payable = 0 }
 
 -- cash of a day: on a new day the one before is closed
-unfoldable pub settled : FinancingTally → (marked : Bool) (receivable payable days : ℕ) → FinancingTally
-settled t marked receivable payable days = record {
+unfoldable pub settled : FinancingTally → FinancingTrade → FinancingTally
+settled t x = record {
   assets = t .assets;
   lent = t .lent;
   received = t .received;
   excess = t .excess;
-  closed = t .closed + cond (eqb days (t .day)) 0 (min (t .receivable) (t .payable));
-  day = days;
-  receivable = cond (eqb days (t .day)) (t .receivable) 0 + cond marked receivable 0;
-  payable = cond (eqb days (t .day)) (t .payable) 0 + cond marked payable 0;
+  closed = t .closed + cond (eqb (x .days) (t .day)) 0 (min (t .receivable) (t .payable));
+  day = x .days;
+  receivable = cond (eqb (x .days) (t .day)) (t .receivable) 0 + cond (x .netSettled) (x .receivable) 0;
+  payable = cond (eqb (x .days) (t .day)) (t .payable) 0 + cond (x .netSettled) (x .payable) 0;
 }
 
 -- with one trade more
@@ -71,7 +46,7 @@ tallied t x =
       receivable = t .receivable;
       payable = t .payable;
     })
-    (x .netSettled) (x .receivable) (x .payable) (x .days)
+    x
 
 unfoldable pub tallyFrom : FinancingTally → List FinancingTrade → FinancingTally
 tallyFrom t [] = t
@@ -121,15 +96,13 @@ plusSet s t w = record {
 
 -- ---- what fits 64 bits
 
+-- all amounts together
+abbrev pub tallySum : FinancingTally → ℕ
+tallySum t = t .assets + t .lent + t .received + t .excess + (t .closed + t .receivable) + t .payable
+
 -- a tally that leaves room for one trade more
-pub record TallyRoomy (t : FinancingTally) : Type 0 where
-  pub assets : t .assets ≤ 2 ^ 62
-  pub lent : t .lent ≤ 2 ^ 62
-  pub received : t .received ≤ 2 ^ 62
-  pub excess : t .excess ≤ 2 ^ 62
-  pub closed : t .closed ≤ 2 ^ 62
-  pub receivable : t .receivable ≤ 2 ^ 62
-  pub payable : t .payable ≤ 2 ^ 62
+abbrev pub TallyRoomy : FinancingTally → Type 0
+TallyRoomy t = tallySum t ≤ 2 ^ 62
 
 -- a tally whose thousandths fit
 pub record TallyFits (t : FinancingTally) : Type 0 where

@@ -4,26 +4,27 @@ use crate::tally::with_set;
 use crate::trades::Weighed;
 use crate::trades::weigh;
 use records::ItemStep;
-use rules::Bands;
 use rules::Sums;
 use rules::causes;
 ghost use mathlib.Core.Path.{_≡_};
 ghost use denote.Ref.{now};
+ghost use Rattle.rules.specs.declared.Bands.{Bands};
 ghost use Rattle.rules.specs.Word.{kindOf, word};
 ghost use Rattle.rules.specs.Read.{financingSetTurn};
 ghost use Rattle.records.specs.Readable.{Readable};
-ghost use Rattle.records.specs.Step.{SumsRoomy, itemStep};
+ghost use Rattle.records.specs.Sums.{SumsRoomy};
+ghost use Rattle.records.specs.Step.{itemStep};
 
-mod amounts;
 mod faults;
+mod read;
 mod tally;
 mod trades;
 
 // The set at the head of a part of the book, in the sums: "A part of the lent book starting at the set's head is handed on to the
 // function that weighs the set". No row of it goes by the bands.
-pub fn financing_set(part: &[u32], s: Sums, bands: Bands) -> ItemStep
+pub fn financing_set(part: &[u32], s: Sums) -> ItemStep
     requires { ⌜ Readable 1 (now part) × ((kindOf (word (now part) 0) ≡ 8) × SumsRoomy s) ⌝ }
-    ensures { λ r. ⌜ r ≡ itemStep bands s (financingSetTurn (now (part .entry))) ⌝ }
+    ensures { λ r. ⌜ ((bands : Bands) → r ≡ itemStep bands s (financingSetTurn (now (part .entry)))) ⌝ }
 {
     let head = part[0];
     let fault = financing_set_fault(head);

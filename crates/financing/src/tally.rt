@@ -1,16 +1,19 @@
 // The tally of a financing set: its sums so far, and the cash of the day that is not closed yet.
-use crate::amounts::amount;
+use crate::read::FinancingTradeWords;
 use rules::Sums;
 use rules::payloads;
 use words::amount::size;
 use words::numbers::chosen;
 use words::numbers::less;
 use words::numbers::lesser;
+use words::numbers::short_of;
+use words::numbers::wide;
 use words::parts::bit;
 ghost use mathlib.Core.Path.{_≡_};
-ghost use Prim.Native.Nat.{_^_, _≤_};
-ghost use Rattle.records.specs.Step.{SumsRoomy};
-ghost use Rattle.financing.specs.Weighing.{TallyFits, TallyRoomy, excessIn, nettedIn, noTally, plusSet, settled, tallied, tradeOf};
+ghost use Prim.Native.Nat.{_+_, _^_, _≤_};
+ghost use Rattle.records.specs.Sums.{SumsRoomy};
+ghost use Rattle.financing.specs.Weighing.{TallyFits, TallyRoomy, excessIn, nettedIn, noTally, plusSet, settled, tallied};
+ghost use Rattle.financing.specs.Words.{financingTradeOf};
 
 // Gross assets less securities, value lent and value received, what was lent beyond what was received trade by trade; cash netted of
 // the days that are closed, and the day of the trade before with its receivables and payables.
@@ -42,42 +45,32 @@ impl FinancingTally {
     }
 
     // One trade more, by its words.
-    pub fn add(
-        mut self,
-        w: u32,
-        asset: u32,
-        securities: u32,
-        receivable: u32,
-        payable: u32,
-        lent: u32,
-        received: u32,
-        days: u32,
-    ) -> FinancingTally
+    pub fn add(mut self, t: FinancingTradeWords) -> FinancingTally
         requires { ⌜ TallyRoomy self ⌝ }
-        ensures { λ r. ⌜ r ≡ tallied self (tradeOf w asset securities receivable payable lent received days) ⌝ }
+        ensures { λ r. ⌜ r ≡ tallied self (financingTradeOf t) ⌝ }
     {
-        self.assets = self.assets + less(amount(asset), amount(securities));
-        self.lent = self.lent + amount(lent);
-        self.received = self.received + amount(received);
-        self.excess = self.excess + less(amount(lent), amount(received));
-        self.settle(
-            bit(w, payloads::FINANCING_TRADE_NET_SETTLED),
-            amount(receivable),
-            amount(payable),
-            size(days),
-        )
+        let lent = wide(size(t.lent));
+        let received = wide(size(t.received));
+        self.assets = self.assets + wide(short_of(size(t.asset), size(t.securities)));
+        self.lent = self.lent + lent;
+        self.received = self.received + received;
+        self.excess = self.excess + less(lent, received);
+        self.settle(t)
     }
 
     // "cash netted is the lesser of summed receivables and summed payables; the days are added": a new day closes the one before.
-    fn settle(mut self, marked: bool, receivable: u64, payable: u64, days: u32) -> FinancingTally
-        requires { ⌜ (self .closed ≤ 2 ^ 62) × (self .receivable ≤ 2 ^ 62) × (self .payable ≤ 2 ^ 62) × (receivable ≤ 2 ^ 62) × (payable ≤ 2 ^ 62) ⌝ }
-        ensures { λ r. ⌜ r ≡ settled self marked receivable payable days ⌝ }
+    fn settle(mut self, t: FinancingTradeWords) -> FinancingTally
+        requires { ⌜ self .closed + self .receivable + self .payable ≤ 2 ^ 62 ⌝ }
+        ensures { λ r. ⌜ r ≡ settled self (financingTradeOf t) ⌝ }
     {
+        let days = size(t.days);
         let same = days == self.day;
+        let marked = bit(t.head, payloads::FINANCING_TRADE_NET_SETTLED);
         self.closed = self.closed + chosen(same, 0, lesser(self.receivable, self.payable));
         self.day = days;
-        self.receivable = chosen(same, self.receivable, 0) + chosen(marked, receivable, 0);
-        self.payable = chosen(same, self.payable, 0) + chosen(marked, payable, 0);
+        self.receivable = chosen(same, self.receivable, 0)
+            + chosen(marked, wide(size(t.receivable)), 0);
+        self.payable = chosen(same, self.payable, 0) + chosen(marked, wide(size(t.payable)), 0);
         self
     }
 

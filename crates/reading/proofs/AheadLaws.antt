@@ -1,5 +1,5 @@
 -- What lies ahead where an item is due, by what stands there. Assumes nothing.
-use Prim.Native.Nat.{ℕ, suc, _≤_}
+use Prim.Native.Nat.{ℕ, suc, _≤_, _<_}
 use mathlib.Core.Path.{_≡_, _∙_, ap}
 use mathlib.Core.List.{List, []}
 use native.Mathlib.Omega.{arith}
@@ -12,14 +12,16 @@ use Rattle.rules.specs.Book.{Placed}
 use Rattle.rules.specs.Run.{Turn, over, bad, some, Run, withOne, thenRun, runFrom}
 use Rattle.rules.specs.Read.{itemTurn}
 use Rattle.rules.specs.Register.{drawsIn, drawsOver}
+use Rattle.rules.specs.Rows.{sumsOf}
 use Rattle.rules.proofs.Runs.{FineTurn, run-on}
 use Rattle.theorems.proofs.MemberBounds.{perWord}
 use Rattle.theorems.proofs.ItemBounds.{placedWeight, fine-item-turn}
 use Rattle.theorems.proofs.ItemRows.{rows-at-most}
-use Rattle.records.specs.Step.{plusItem, SumsRoomy}
+use Rattle.records.specs.Sums.{plus, SumsRoomy}
+use Rattle.records.specs.Step.{plusItem}
 use Rattle.reading.specs.declared.Admission.the-variants.{Admitted, Refused}
 use Rattle.reading.specs.Steps.{allSums, SumsUpTo}
-use Rattle.reading.specs.Ahead.{endsAt, after, itemsAhead, fromItem, Onward}
+use Rattle.reading.specs.Ahead.{endsAt, after, itemsAhead, fromItem}
 
 -- the sums of a place leave room for an item
 pub sums-roomy : {ws : List ℕ} {s : Sums} {at : ℕ} → SumsUpTo ws s at → SumsRoomy s
@@ -46,9 +48,29 @@ sums-roomy f =
       unconverted = omega arith;
     }
 
+-- what is added to sums is no larger than both
+pub more-roomy : (s t : Sums) → SumsRoomy (plus s t) → SumsRoomy t
+more-roomy s t h = record {
+  assets = omega (arith, h .assets);
+  deducted = omega (arith, h .deducted);
+  replacement = omega (arith, h .replacement);
+  weighted = omega (arith, h .weighted);
+  posted = omega (arith, h .posted);
+  offset = omega (arith, h .offset);
+  exempt = omega (arith, h .exempt);
+  written = omega (arith, h .written);
+  covered = omega (arith, h .covered);
+  financed = omega (arith, h .financed);
+  netted = omega (arith, h .netted);
+  principal = omega (arith, h .principal);
+  agent = omega (arith, h .agent);
+  committed = omega (arith, h .committed);
+  unconverted = omega (arith, h .unconverted);
+}
+
 -- one item more: its draws, and then what lies ahead on top of the sums with it
 with-one : (bands : Bands) (s : Sums) (p : Placed) (r : Run Placed) → itemsAhead bands s (withOne p r) ≡ after (drawsIn (p .begin) (p .item)) (itemsAhead bands (plusItem bands s (p .item)) r)
-unfolding drawsOver
+unfolding drawsOver sumsOf
 with-one bands s p r = simp add-assoc
 
 module _ (bands : Bands) (ws : List ℕ) (s : Sums) (at : ℕ) (w : at ≤ length ws) where
@@ -60,7 +82,7 @@ module _ (bands : Bands) (ws : List ℕ) (s : Sums) (at : ℕ) (w : at ≤ lengt
 
   -- the end word
   pub ahead-over : itemTurn ws at ≡ over → fromItem bands ws s at ≡ endsAt (Admitted s)
-  unfolding drawsOver
+  unfolding drawsOver sumsOf
   ahead-over e = by-turn over e ∙ simp add-zero
 
   -- a fault
@@ -78,6 +100,12 @@ module _ (bands : Bands) (ws : List ℕ) (s : Sums) (at : ℕ) (w : at ≤ lengt
   pub ahead-some : (p : Placed) (next : ℕ) → itemTurn ws at ≡ some p 0 next → fromItem bands ws s at ≡ after (drawsIn (p .begin) (p .item)) (fromItem bands ws (plusItem bands s (p .item)) next)
   unfolding fromItem
   ahead-some p next e = by-turn (some p 0 next) e ∙ with-one bands s p (runFrom (itemTurn ws) (suc (length ws)) next)
+
+-- items without a fault lead from a place and its sums to one further on: what lies ahead is the same
+pub record Onward (bands : Bands) (ws : List ℕ) (s : Sums) (from : ℕ) (sums : Sums) (next : ℕ) : Type 0 where
+  pub same : fromItem bands ws s from ≡ fromItem bands ws sums next
+  pub sums-up-to : SumsUpTo ws sums next
+  pub further : from < next
 
 -- an item without draws
 pub onward : (bands : Bands) (ws : List ℕ) (s : Sums) (at : ℕ) → SumsUpTo ws s at → (p : Placed) (next : ℕ) → itemTurn ws at ≡ some p 0 next → drawsIn (p .begin) (p .item) ≡ []

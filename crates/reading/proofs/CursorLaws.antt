@@ -32,7 +32,8 @@ use Rattle.reading.specs.declared.protections.Protections.the-variants a
 use Rattle.reading.specs.declared.steps.Step.{Step}
 use Rattle.reading.specs.declared.steps.Step.the-variants.{On, Cover, Ended}
 use Rattle.reading.specs.Steps.{placeOf, readingOf, allSums, SumsUpTo}
-use Rattle.reading.specs.Ahead.{endsAt, after, fromItem, fromSet, recordsAhead, ahead, noSums, Sound, left, answerAhead, SoundAnswer, stepAhead, SoundStep}
+use Rattle.records.specs.Sums.{noSums}
+use Rattle.reading.specs.Ahead.{endsAt, after, fromItem, fromSet, recordsAhead, ahead, Sound, left, answerAhead, AnswersItem, stepAhead, SoundStep}
 
 -- ---- where it stands
 
@@ -46,7 +47,7 @@ module _ {ws : List ℕ} {c : Cursor} (so : Sound ws c) where
   pub sound-item : {at : ℕ} {s : Sums} (o : OpenSet) → SumsUpTo ws s at → Sound ws (itemCursor at s o)
   sound-item o f = record { readable = so .readable; sums-up-to = λ b. f; set = λ b i. let z : _≡_ {A = ℕ} 0 1 = cc in absurd (omega arith) }
 
-  pub sound-set : {at : ℕ} {s : Sums} {o : OpenSet} → SumsUpTo ws s at → SoundSet (drop at ws) at o → Sound ws (setCursor at s o)
+  pub sound-set : {at : ℕ} {s : Sums} {o : OpenSet} → SumsUpTo ws s at → SoundSet (drop at ws) o → Sound ws (setCursor at s o)
   sound-set f t = record { readable = so .readable; sums-up-to = λ b. f; set = λ b i. t }
 
 module _ (ws : List ℕ) (c : Cursor) where
@@ -77,10 +78,10 @@ module _ (ws : List ℕ) (c : Cursor) where
 abbrev pub Right : List ℕ → Cursor → Step → Type 0
 Right ws c r = (ahead ws c ≡ stepAhead ws r) × SoundStep ws c r
 
-module _ {ws : List ℕ} {c : Cursor} (so : Sound ws c) (b : c .begun ≡ true) (i : c .inside ≡ false) {bands : Bands} (bq : bands ≡ headOf ws .bands)
-    (r : ItemAnswer) (q : (fromItem bands ws (c .sums) (c .at) ≡ answerAhead bands ws (c .sums) (c .at) r) × SoundAnswer ws (c .at) r) where
+module _ {ws : List ℕ} {c : Cursor} (so : Sound ws c) (b : c .begun ≡ true) (i : c .inside ≡ false)
+    (r : ItemAnswer) (q : AnswersItem ws (c .sums) (c .at) r) where
   told : ahead ws c ≡ answerAhead (headOf ws .bands) ws (c .sums) (c .at) r
-  told = ahead-item ws c b i ∙ rw bq at (q .0)
+  told = ahead-item ws c b i ∙ q .0 (headOf ws .bands)
 
   pub step-more : (sums : Sums) (next : ℕ) → r ≡ More sums next → (o : OpenSet) → Right ws c (On (itemCursor next sums o))
   unfolding ahead
@@ -91,7 +92,7 @@ module _ {ws : List ℕ} {c : Cursor} (so : Sound ws c) (b : c .begun ≡ true) 
   pub step-set : r ≡ Set → (o : OpenSet) → o ≡ newSet → Right ws c (On (setCursor (c .at) (c .sums) o))
   unfolding ahead
   step-set e o oq =
-      let t : SoundSet (drop (c .at) ws) (c .at) newSet = rw e at (q .1) in
+      let t : SoundSet (drop (c .at) ws) newSet = rw e at (q .1) in
       rw oq (rw e at told, (sound-set so (so .sums-up-to b) t, omega (arith, left-item ws c b i)))
 
   pub step-end : r ≡ End → Right ws c (Ended (Admitted (c .sums)))

@@ -26,8 +26,8 @@ use Rattle.records.specs.Readable.{Readable}
 use Rattle.records.specs.Step.{plusItem, itemStep}
 use Rattle.reading.specs.declared.Admission.the-variants.{Refused}
 use Rattle.reading.specs.Steps.{SumsUpTo}
-use Rattle.reading.specs.Ahead.{endsAt, fromItem, Onward}
-use Rattle.reading.proofs.AheadLaws.{ahead-bad, ahead-broken, onward}
+use Rattle.reading.specs.Ahead.{endsAt, fromItem}
+use Rattle.reading.proofs.AheadLaws.{ahead-bad, ahead-broken, Onward, onward}
 
 -- ---- the part of the book
 
@@ -110,17 +110,9 @@ plain-record ws at fault next h = if (lacks (amountsIn (word ws at)) ws at) faul
     if false zero = h (at + suc (amountsIn (word ws at)))
     if false (suc f) = bads
 
-pub plain-asset : (ws : List ℕ) → Plain (assetTurn ws)
-unfolding assetTurn
-plain-asset ws = plain-record ws 0 _ _ (λ n. somes (λ b. refl))
-
 pub plain-financing : (ws : List ℕ) → Plain (financingSetTurn ws)
 unfolding financingSetTurn
 plain-financing ws = plain-record ws 0 _ _ (λ n. somes (λ b. refl))
-
-pub plain-off-balance : (ws : List ℕ) → Plain (offBalanceTurn ws)
-unfolding offBalanceTurn
-plain-off-balance ws = plain-record ws 0 _ _ (λ n. somes (λ b. refl))
 
 -- what a call answered that reads one: the item is in the sums, or it is faulty
 module _ (bands : Bands) {ws : List ℕ} {s : Sums} {at k : ℕ} (m : Met ws s at k) (ke : k ≡ 15 → ⊥) (turn : List ℕ → Turn Item) (plain : Plain (turn (drop at ws))) (is : itemOf (drop at ws) ≡ turn (drop at ws))

@@ -3,7 +3,9 @@ pub mod AheadLaws
 pub mod ItemLaws
 pub mod RunLaws
 pub mod HeadLaws
+pub mod ItemRuns
 pub mod SetBounds
 pub mod SetHead
 pub mod CursorLaws
 pub mod SetSteps
+pub mod AnswerLaws

@@ -1,69 +1,72 @@
--- A run of items of one kind, from a good one on: one item more, and where it ends. Assumes nothing.
-use Prim.Native.Nat.{ℕ, _≤_, _<_}
+-- A run of items that are one record each: one item more, the first fault, and where it ends. Assumes nothing.
+use Prim.Native.Nat.{ℕ, suc, _+_, _≤_, _<_}
 use mathlib.Core.Path.{_≡_, refl, sym, _∙_, ap}
-use mathlib.Core.Bool.{Bool, true, false}
-use mathlib.Core.List.{List}
+use mathlib.Core.Bool.{Bool, true, false, cond}
+use mathlib.Core.List.{List, []}
 use native.Mathlib.Omega.{arith}
-use borrow.Author.Tests.{leb-true, leb-false}
-use lib.Dec.{leb}
-use lib.ListN.{drop}
+use borrow.Author.Tests.{eqb-true, leb-true, leb-false}
+use lib.Dec.{eqb, leb}
+use lib.ListN.{length, drop}
 use Rattle.rules.specs.declared.Bands.{Bands}
 use Rattle.rules.specs.declared.Sums.{Sums}
-use Rattle.rules.specs.Word.{word, kindOf}
+use Rattle.rules.specs.Word.{word, kindOf, amountsOfKind}
 use Rattle.rules.specs.Run.{some}
-use Rattle.rules.specs.Read.{stands, assetAt, assetTurn, offBalanceAt, offBalanceTurn}
-use Rattle.rules.specs.Book.{Item, asset, offBalance}
-use Rattle.records.specs.declared.ItemStep.{ItemStep}
-use Rattle.records.specs.declared.ItemStep.the-variants.{Refused}
+use Rattle.rules.specs.Read.{lacks, recordThen, stands, itemOf, placed}
+use Rattle.rules.specs.Register.{drawsIn}
+use Rattle.rules.specs.Book.{Item}
+use Rattle.rules.proofs.Lists.{and-left, and-right}
+use Rattle.theorems.proofs.Records.{lacks-room}
 use Rattle.records.proofs.Words.{record-good}
-use Rattle.records.specs.Step.{itemStep, assetCause, offBalanceCause}
+use Rattle.records.specs.Step.{plusItem, soundAt}
+use Rattle.reading.specs.declared.Admission.the-variants.{Refused}
 use Rattle.reading.specs.Steps.{SumsUpTo}
-use Rattle.reading.specs.Ahead.{fromItem, Onward}
-use Rattle.reading.proofs.ItemLaws.{partAt, from-is}
+use Rattle.reading.specs.Ahead.{endsAt, fromItem}
+use Rattle.reading.proofs.AheadLaws.{Onward, onward}
+use Rattle.reading.proofs.ItemLaws.{Met, met, kind-here, turn-here, halted}
 
--- from a place and its sums on, so far: what lies ahead is the same
-pub record Passing (bands : Bands) (ws : List ℕ) (s : Sums) (from : ℕ) (t : Sums) (at : ℕ) : Type 0 where
-  pub same : fromItem bands ws s from ≡ fromItem bands ws t at
+-- from a place and its sums on, so far: what lies ahead is the same, whatever the bands
+pub record Running (ws : List ℕ) (s : Sums) (from : ℕ) (t : Sums) (at : ℕ) : Type 0 where
+  pub same : (bands : Bands) → fromItem bands ws s from ≡ fromItem bands ws t at
   pub sums-up-to : SumsUpTo ws t at
   pub reached : from ≤ at
 
-pub passing-none : {bands : Bands} {ws : List ℕ} {s : Sums} {from : ℕ} → SumsUpTo ws s from → Passing bands ws s from s from
-passing-none f = record { same = refl; sums-up-to = f; reached = omega arith }
+pub run-begins : {ws : List ℕ} {s : Sums} {from : ℕ} → SumsUpTo ws s from → {t : Sums} → t ≡ s → Running ws s from t from
+run-begins f e = rw e (record { same = λ bands. refl; sums-up-to = f; reached = omega arith })
 
-module _ {bands : Bands} {ws : List ℕ} {s : Sums} {from : ℕ} {t : Sums} {at : ℕ} (p : Passing bands ws s from t at) where
-  pub passing-more : {sums : Sums} {next : ℕ} → Onward bands ws t at sums next → Passing bands ws s from sums next
-  passing-more o = record { same = p .same ∙ o .same; sums-up-to = o .sums-up-to; reached = omega (arith, p .reached, o .further) }
+module _ {ws : List ℕ} {s : Sums} {from : ℕ} {t : Sums} {at : ℕ} (r : Running ws s from t at) where
+  pub run-goes-on : (bands : Bands) {u : Sums} {next : ℕ} → ((b : Bands) → Onward b ws t at u next) → Running ws s from u next
+  run-goes-on bands o = record { same = λ b. r .same b ∙ o b .same; sums-up-to = o bands .sums-up-to; reached = omega (arith, r .reached, o bands .further) }
 
-  -- a run that has left its first place
-  pub passed : (at ≡ from → ⊥) → Onward bands ws s from t at
-  passed n = record { same = p .same; sums-up-to = p .sums-up-to; further = go (leb at from) refl }
+  -- where no record of the kind stands it has left its first place
+  pub run-left : (k : ℕ) {b : Bool} → b ≡ stands k ws at → b ≡ false → stands k ws from ≡ true → from < at
+  run-left k q e h = go (leb at from) refl
     where
-      go : (b : Bool) → leb at from ≡ b → from < at
-      go true e = absurd (n (omega (arith, leb-true at from e, p .reached)))
-      go false e = leb-false at from e
+      go : (l : Bool) → leb at from ≡ l → from < at
+      go true l =
+          let z : at ≡ from = omega (arith, leb-true at from l, r .reached) in
+          let c : _≡_ {A = Bool} true false = sym h ∙ ap (stands k ws) (sym z) ∙ sym q ∙ e in
+          let n : _≡_ {A = ℕ} 0 1 = cc in
+          absurd (omega arith)
+      go false l = leb-false at from l
 
--- ---- it has left its first place
+-- ---- a kind of items that are one record, with so many amounts
 
-module _ (ws : List ℕ) (at from : ℕ) where
-  -- where no item of the kind stands
-  pub left-standing : (k : ℕ) (b : Bool) → b ≡ stands k ws at → b ≡ false → stands k ws from ≡ true → at ≡ from → ⊥
-  left-standing k b q e h z = let c : _≡_ {A = Bool} true false = sym h ∙ ap (stands k ws) (sym z) ∙ sym q ∙ e in let n : _≡_ {A = ℕ} 0 1 = cc in omega arith
+module _ (k : ℕ) (ke : k ≡ 15 → ⊥) (fault : List ℕ → ℕ) (item : List ℕ → Item) (plain : (begin : ℕ) (p : List ℕ) → drawsIn begin (item p) ≡ [])
+    (is : (p : List ℕ) → kindOf (word p 0) ≡ k → itemOf p ≡ recordThen p 0 (fault p) (some (item p) 0)) where
+  abbrev causeOf : List ℕ → ℕ
+  causeOf p = cond (lacks (amountsOfKind k) p 0) 6 (fault p)
 
-  -- where an item is faulty
-  module _ (bands : Bands) (t : Sums) (number place : ℕ) (r : ItemStep) (e : r ≡ Refused number place) where
-    good-step : (i : Item) (next : ℕ) → r ≡ itemStep bands t (some i 0 next) → ⊥
-    good-step i next q = let n : _≡_ {A = ℕ} 0 1 = cc in omega arith
+  module _ {ws : List ℕ} {t : Sums} {at : ℕ} (f : SumsUpTo ws t at) where
+    pub sound-met : soundAt k causeOf ws at ≡ true → Met ws t at k
+    sound-met e = met k f (and-left (stands k ws at) _ e)
 
-    pub left-asset : kindOf (word (partAt ws at) 0) ≡ 2 → r ≡ itemStep bands t (assetTurn (partAt ws at)) → assetCause (drop from ws) ≡ 0 → at ≡ from → ⊥
-    unfolding assetCause assetTurn
-    left-asset k q c z =
-        let i : Item = asset (assetAt (partAt ws at)) in
-        let g = record-good (partAt ws at) 0 2 k _ (some i 0) (ap assetCause (from-is ws at ∙ ap (λ (x : ℕ). drop x ws) z) ∙ c) in
-        good-step i 4 (q ∙ ap (itemStep bands t) (g .1))
+    pub sound-cause : soundAt k causeOf ws at ≡ true → causeOf (drop at ws) ≡ 0
+    sound-cause e = eqb-true _ _ (and-right (stands k ws at) _ e)
 
-    pub left-off-balance : kindOf (word (partAt ws at) 0) ≡ 10 → r ≡ itemStep bands t (offBalanceTurn (partAt ws at)) → offBalanceCause (drop from ws) ≡ 0 → at ≡ from → ⊥
-    unfolding offBalanceCause offBalanceTurn
-    left-off-balance k q c z =
-        let i : Item = offBalance (offBalanceAt (partAt ws at)) in
-        let g = record-good (partAt ws at) 0 10 k _ (some i 0) (ap offBalanceCause (from-is ws at ∙ ap (λ (x : ℕ). drop x ws) z) ∙ c) in
-        good-step i 2 (q ∙ ap (itemStep bands t) (g .1))
+    -- one item more
+    pub one-more : soundAt k causeOf ws at ≡ true → (bands : Bands) → Onward bands ws t at (plusItem bands t (item (drop at ws))) (at + (0 + suc (amountsOfKind k)))
+    one-more e bands =
+        let m = sound-met e in
+        onward bands ws t at f _ (at + (0 + suc (amountsOfKind k)))
+        (turn-here m ke ∙ ap (placed at) (is (drop at ws) (kind-here m) ∙ record-good (drop at ws) 0 k (kind-here m) (fault (drop at ws)) (some (item (drop at ws)) 0) (sound-cause e) .1))
+        (plain at (drop at ws))

@@ -1,14 +1,16 @@
 -- How large the sums are with a derivative set. Assumes nothing.
 use Prim.Native.Nat.{ℕ, _+_, _-_, _*_, _^_, _≤_}
-use mathlib.Core.List.{List, []}
+use mathlib.Core.List.{List}
 use native.Mathlib.Omega.{arith}
 use lib.ListN.{length}
 use Rattle.rules.specs.declared.Sums.{Sums}
-use Rattle.rules.specs.Word.{bitOf}
+use Rattle.rules.specs.Read.{derivativeSetAt}
 use Rattle.rules.specs.Weigh.{marginOffsets, replacementOf, weightedIn}
 use Rattle.theorems.proofs.ItemRows.{marked, replacement-at-most, weighted-at-most}
+use Rattle.derivatives.specs.declared.read.SetWords.{SetWords}
 use Rattle.derivatives.specs.declared.tally.Tally.{Tally}
-use Rattle.derivatives.specs.Gathered.{TallyFits, plusSet, setOf, tallyBy}
+use Rattle.derivatives.specs.Words.{setOf}
+use Rattle.derivatives.specs.Gathered.{TallyFits, plusSet, tallyBy}
 use Rattle.derivatives.specs.Ahead.{TallyUpTo}
 use Rattle.reading.specs.Steps.{allSums, SumsUpTo}
 
@@ -17,11 +19,11 @@ pub tally-fits : {t : Tally} {place : ℕ} → TallyUpTo t place → place ≤ 2
 tally-fits l h = record { weight = omega (arith, l .weight); losses = omega (arith, l .losses); uncovered = l .uncovered }
 
 -- the head of the set makes up for its margin and collateral
-pub sums-with-set : {ws : List ℕ} {s : Sums} {at : ℕ} → SumsUpTo ws s at → (w received paid posted : ℕ) (t : Tally) (place : ℕ) → TallyUpTo t place → at + place ≤ length ws
-    → SumsUpTo ws (plusSet s (setOf w received paid posted []) t) (at + place)
-unfolding allSums
-sums-with-set {s = s} f w received paid posted t place l h =
-    let d = setOf w received paid posted [] in
+pub sums-with-set : {ws : List ℕ} {s : Sums} {at : ℕ} → SumsUpTo ws s at → (x : SetWords) (t : Tally) (place : ℕ) → TallyUpTo t place → at + place ≤ length ws
+    → SumsUpTo ws (plusSet s (setOf x) t) (at + place)
+unfolding allSums derivativeSetAt
+sums-with-set {s = s} f x t place l h =
+    let d = setOf x in
     let small = f .small in
     let weight = l .weight in
     record {
@@ -32,6 +34,6 @@ sums-with-set {s = s} f w received paid posted t place l h =
         weighted-at-most d (tallyBy t) (t .gross),
         weighted-at-most d (tallyBy t) (t .gross - t .uncovered),
         marked (marginOffsets d) (1000 * d .paid),
-        marked (bitOf 5 w) (1000 * replacementOf d (tallyBy t) + weightedIn d (tallyBy t) (t .gross - t .uncovered)),
+        marked (d .exempt) (1000 * replacementOf d (tallyBy t) + weightedIn d (tallyBy t) (t .gross - t .uncovered)),
       );
     }

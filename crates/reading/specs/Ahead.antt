@@ -9,15 +9,16 @@ use lib.ListN.{length, drop}
 use Rattle.rules.specs.declared.Bands.{Bands}
 use Rattle.rules.specs.declared.Draw.{Draw}
 use Rattle.rules.specs.declared.Sums.{Sums}
-use Rattle.rules.specs.Word.{word}
 use Rattle.rules.specs.Book.{Placed}
 use Rattle.rules.specs.Run.{Run, runFrom}
 use Rattle.rules.specs.Read.{firstRecord, headOf, itemTurn, itemsOf}
 use Rattle.rules.specs.Register.{drawsOver}
-use Rattle.rules.specs.Rows.{row1, row2, row4, row5, row6, row7, row8, row9, row10, row12, row13, row14, row15, row17, row18, sumOver}
+use Rattle.rules.specs.Rows.{sumsOf}
 use Rattle.records.specs.Readable.{Readable}
+use Rattle.records.specs.Sums.{noSums, plus}
 use Rattle.derivatives.specs.declared.set.OpenSet.{OpenSet}
-use Rattle.derivatives.specs.Gathered.{plusSet, setOf}
+use Rattle.derivatives.specs.Words.{setWords, setOf}
+use Rattle.derivatives.specs.Gathered.{plusSet}
 use Rattle.derivatives.specs.Ahead.{Ending, gathered, refused, SetAhead, setAhead, newSet, SoundSet}
 use Rattle.reading.specs.declared.Admission.{Admission}
 use Rattle.reading.specs.declared.Admission.the-variants.{Admitted, Refused}
@@ -44,23 +45,7 @@ after ds a = record { reading = a .reading; draws = ds ++ a .draws }
 
 -- from an item on: the run of the items, on top of some sums
 abbrev pub plusAll : Bands → Sums → List Placed → Sums
-plusAll bands s ps = record {
-  assets = s .assets + sumOver (row1 bands) ps;
-  deducted = s .deducted + sumOver (row2 bands) ps;
-  replacement = s .replacement + sumOver (row4 bands) ps;
-  weighted = s .weighted + sumOver (row5 bands) ps;
-  posted = s .posted + sumOver (row6 bands) ps;
-  offset = s .offset + sumOver (row7 bands) ps;
-  exempt = s .exempt + sumOver (row8 bands) ps;
-  written = s .written + sumOver (row9 bands) ps;
-  covered = s .covered + sumOver (row10 bands) ps;
-  financed = s .financed + sumOver row12 ps;
-  netted = s .netted + sumOver row13 ps;
-  principal = s .principal + sumOver row14 ps;
-  agent = s .agent + sumOver row15 ps;
-  committed = s .committed + sumOver row17 ps;
-  unconverted = s .unconverted + sumOver row18 ps;
-}
+plusAll bands s ps = plus s (sumsOf bands ps)
 
 abbrev pub itemsAhead : Bands → Sums → Run Placed → Ahead
 itemsAhead bands s r = record {
@@ -74,7 +59,7 @@ fromItem bands ws s at = itemsAhead bands s (runFrom (itemTurn ws) (suc (length 
 -- from inside a derivative set that begins at a place: what lies ahead in the set, then the items
 abbrev pub setThen : Bands → List ℕ → Sums → (begin : ℕ) → Ending → Ahead
 setThen bands ws s begin (gathered t place) =
-    fromItem bands ws (plusSet s (setOf (word (drop begin ws) 0) (word (drop begin ws) 1) (word (drop begin ws) 2) (word (drop begin ws) 3) []) t) (begin + place)
+    fromItem bands ws (plusSet s (setOf (setWords (drop begin ws))) t) (begin + place)
 setThen bands ws s begin (refused number place) = endsAt (Refused number (begin + place))
 
 abbrev pub setBehind : Bands → List ℕ → Sums → (begin : ℕ) → SetAhead → Ahead
@@ -96,25 +81,6 @@ ahead ws c =
 
 -- ---- cursors
 
-abbrev pub noSums : Sums
-noSums = record {
-  assets = 0;
-  deducted = 0;
-  replacement = 0;
-  weighted = 0;
-  posted = 0;
-  offset = 0;
-  exempt = 0;
-  written = 0;
-  covered = 0;
-  financed = 0;
-  netted = 0;
-  principal = 0;
-  agent = 0;
-  committed = 0;
-  unconverted = 0;
-}
-
 abbrev pub newCursor : Cursor
 newCursor = record { begun = false; inside = false; at = firstRecord; sums = noSums; set = newSet }
 
@@ -122,7 +88,7 @@ newCursor = record { begun = false; inside = false; at = firstRecord; sums = noS
 pub record Sound (ws : List ℕ) (c : Cursor) : Type 0 where
   pub readable : Readable firstRecord ws
   pub sums-up-to : c .begun ≡ true → SumsUpTo ws (c .sums) (c .at)
-  pub set : c .begun ≡ true → c .inside ≡ true → SoundSet (drop (c .at) ws) (c .at) (c .set)
+  pub set : c .begun ≡ true → c .inside ≡ true → SoundSet (drop (c .at) ws) (c .set)
 
 -- how much is left to read: a step reads words, or goes into a set, or past the protections
 abbrev pub left : List ℕ → Cursor → ℕ
@@ -130,11 +96,9 @@ left ws c = cond (c .begun) (2 * (length ws - c .at) + cond (c .inside) 0 1) (2 
 
 -- ---- the answers
 
--- items without a fault lead from a place and its sums to one further on: what lies ahead is the same
-pub record Onward (bands : Bands) (ws : List ℕ) (s : Sums) (from : ℕ) (sums : Sums) (next : ℕ) : Type 0 where
-  pub same : fromItem bands ws s from ≡ fromItem bands ws sums next
-  pub sums-up-to : SumsUpTo ws sums next
-  pub further : from < next
+-- what stands there, unless it has a fault
+abbrev pub unlessFaulty : (number at : ℕ) → ItemAnswer → ItemAnswer
+unlessFaulty number at answer = cond (eqb number 0) answer (item.Refused number at)
 
 -- where an item is due: items, and the sums with them; a derivative set; the end word; or a fault
 abbrev pub answerAhead : Bands → List ℕ → Sums → (at : ℕ) → ItemAnswer → Ahead
@@ -145,9 +109,12 @@ answerAhead bands ws s at (item.Refused number place) = endsAt (Refused number p
 
 abbrev pub SoundAnswer : List ℕ → (at : ℕ) → ItemAnswer → Type 0
 SoundAnswer ws at (More sums next) = SumsUpTo ws sums next × (at < next)
-SoundAnswer ws at Set = SoundSet (drop at ws) at newSet
+SoundAnswer ws at Set = SoundSet (drop at ws) newSet
 SoundAnswer ws at End = Unit {0}
 SoundAnswer ws at (item.Refused number place) = Unit {0}
+
+abbrev pub AnswersItem : List ℕ → Sums → (at : ℕ) → ItemAnswer → Type 0
+AnswersItem ws s at r = ((bands : Bands) → fromItem bands ws s at ≡ answerAhead bands ws s at r) × SoundAnswer ws at r
 
 -- one step of the reading
 abbrev pub stepAhead : List ℕ → Step → Ahead

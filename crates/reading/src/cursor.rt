@@ -4,12 +4,13 @@ use crate::head::bands_of;
 use crate::steps::Step;
 use crate::steps::next_step;
 use derivatives::set::OpenSet;
+use records::sums::no_sums;
 use rules::Draw;
 use rules::Sums;
 use rules::limits;
 ghost use mathlib.Core.Path.{_≡_};
 ghost use denote.Ref.{now};
-ghost use Rattle.reading.specs.Ahead.{Sound, SoundNext, ahead, nextAhead, noDraw, noSums, newCursor};
+ghost use Rattle.reading.specs.Ahead.{Sound, SoundNext, ahead, nextAhead, noDraw, newCursor};
 
 // Before the protections; where an item is due, with the sums of those before; or inside a derivative set, whose head stands there.
 pub struct Cursor {
@@ -26,28 +27,6 @@ pub struct NextCover {
     pub draw: Draw,
     pub cursor: Cursor,
     pub reading: Admission,
-}
-
-pub fn no_sums() -> Sums
-    ensures { λ r. ⌜ r ≡ noSums ⌝ }
-{
-    Sums {
-        assets: 0,
-        deducted: 0,
-        replacement: 0,
-        weighted: 0,
-        posted: 0,
-        offset: 0,
-        exempt: 0,
-        written: 0,
-        covered: 0,
-        financed: 0,
-        netted: 0,
-        principal: 0,
-        agent: 0,
-        committed: 0,
-        unconverted: 0,
-    }
 }
 
 impl Cursor {

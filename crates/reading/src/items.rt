@@ -4,20 +4,21 @@ use crate::runs::off_balance_items;
 use derivatives::set_cause;
 use financing::financing_set;
 use records::ItemStep;
-use records::assets::asset_cause;
-use records::commitments::off_balance_cause;
-use rules::Bands;
 use rules::Sums;
 use rules::causes;
 use rules::kinds;
+use words::causes::cause;
+use words::numbers::either;
 use words::parts::kind;
 use words::parts::payload;
 ghost use mathlib.Core.Path.{_≡_};
 ghost use mathlib.Core.Bool.{true};
+ghost use Prim.Native.Nat.{suc};
 ghost use denote.Ref.{now};
-ghost use Rattle.rules.specs.Read.{stands};
+ghost use Rattle.rules.specs.Read.{endFault, stands};
+ghost use Rattle.records.specs.Readable.{Readable};
 ghost use Rattle.reading.specs.Steps.{SumsUpTo};
-ghost use Rattle.reading.specs.Ahead.{SoundAnswer, answerAhead, fromItem};
+ghost use Rattle.reading.specs.Ahead.{AnswersItem, unlessFaulty};
 
 // Some items, with the sums that have them and the place behind them; the head of a derivative set; the end word; or a fault.
 pub enum ItemAnswer {
@@ -28,9 +29,9 @@ pub enum ItemAnswer {
 }
 
 // "Kinds 2, 4, 8, 10 come in any order after the protections"; any other but the end is 5.
-pub fn item_at(book: &[u32], at: usize, s: Sums, bands: Bands) -> ItemAnswer
+pub fn item_at(book: &[u32], at: usize, s: Sums) -> ItemAnswer
     requires { ⌜ SumsUpTo (now book) s at ⌝ }
-    ensures { λ r. ⌜ (fromItem bands (now (book .entry)) s at ≡ answerAhead bands (now (book .entry)) s at r) × SoundAnswer (now (book .entry)) at r ⌝ }
+    ensures { λ r. ⌜ AnswersItem (now (book .entry)) s at r ⌝ }
 {
     if book.len() <= at {
         return ItemAnswer::Refused {
@@ -40,19 +41,19 @@ pub fn item_at(book: &[u32], at: usize, s: Sums, bands: Bands) -> ItemAnswer
     }
     let k = kind(book[at]);
     if k == kinds::ASSET {
-        return assets_at(book, at, s, bands);
+        return assets(book, at, s);
     }
     if k == kinds::DERIVATIVE_SET {
-        return set_at(book, at, s, bands);
+        return unless_faulty(set_cause(&book[at..]), at, ItemAnswer::Set);
     }
     if k == kinds::FINANCING_SET {
-        return financing_at(book, at, s, bands);
+        return financing_at(book, at, s);
     }
     if k == kinds::OFF_BALANCE {
-        return off_balance_at(book, at, s, bands);
+        return off_balance_items(book, at, s);
     }
     if k == kinds::END {
-        return end_at(book, at, s, bands);
+        return unless_faulty(end_fault(book, at), at, ItemAnswer::End);
     }
     ItemAnswer::Refused {
         number: causes::KIND_NOT_ALLOWED,
@@ -60,44 +61,22 @@ pub fn item_at(book: &[u32], at: usize, s: Sums, bands: Bands) -> ItemAnswer
     }
 }
 
-// Kind 2, which mostly stands in runs.
-fn assets_at(book: &[u32], at: usize, s: Sums, bands: Bands) -> ItemAnswer
-    requires { ⌜ SumsUpTo (now book) s at × (stands 2 (now book) at ≡ true) ⌝ }
-    ensures { λ r. ⌜ (fromItem bands (now (book .entry)) s at ≡ answerAhead bands (now (book .entry)) s at r) × SoundAnswer (now (book .entry)) at r ⌝ }
+// What stands there, unless it has a fault.
+fn unless_faulty(number: u32, at: usize, answer: ItemAnswer) -> ItemAnswer
+    ensures { λ r. ⌜ r ≡ unlessFaulty number at answer ⌝ }
 {
-    let cause = asset_cause(&book[at..]);
-    if cause != causes::NONE {
-        return ItemAnswer::Refused {
-            number: cause,
-            place: at,
-        };
+    if number != causes::NONE {
+        return ItemAnswer::Refused { number, place: at };
     }
-    let passed = assets(book, at, s, bands);
-    let sums = passed.sums;
-    ItemAnswer::More(sums, passed.next)
-}
-
-// Kind 4: its head; its members are read by themselves.
-fn set_at(book: &[u32], at: usize, s: Sums, bands: Bands) -> ItemAnswer
-    requires { ⌜ SumsUpTo (now book) s at × (stands 4 (now book) at ≡ true) ⌝ }
-    ensures { λ r. ⌜ (fromItem bands (now (book .entry)) s at ≡ answerAhead bands (now (book .entry)) s at r) × SoundAnswer (now (book .entry)) at r ⌝ }
-{
-    let cause = set_cause(&book[at..]);
-    if cause != causes::NONE {
-        return ItemAnswer::Refused {
-            number: cause,
-            place: at,
-        };
-    }
-    ItemAnswer::Set
+    answer
 }
 
 // Kind 8, with its trades.
-fn financing_at(book: &[u32], at: usize, s: Sums, bands: Bands) -> ItemAnswer
+fn financing_at(book: &[u32], at: usize, s: Sums) -> ItemAnswer
     requires { ⌜ SumsUpTo (now book) s at × (stands 8 (now book) at ≡ true) ⌝ }
-    ensures { λ r. ⌜ (fromItem bands (now (book .entry)) s at ≡ answerAhead bands (now (book .entry)) s at r) × SoundAnswer (now (book .entry)) at r ⌝ }
+    ensures { λ r. ⌜ AnswersItem (now (book .entry)) s at r ⌝ }
 {
-    match financing_set(&book[at..], s, bands) {
+    match financing_set(&book[at..], s) {
         ItemStep::Next(sums, next) => ItemAnswer::More(sums, at + next),
         ItemStep::Refused { number, place } => ItemAnswer::Refused {
             number,
@@ -106,39 +85,16 @@ fn financing_at(book: &[u32], at: usize, s: Sums, bands: Bands) -> ItemAnswer
     }
 }
 
-// Kind 10, which mostly stands in runs.
-fn off_balance_at(book: &[u32], at: usize, s: Sums, bands: Bands) -> ItemAnswer
-    requires { ⌜ SumsUpTo (now book) s at × (stands 10 (now book) at ≡ true) ⌝ }
-    ensures { λ r. ⌜ (fromItem bands (now (book .entry)) s at ≡ answerAhead bands (now (book .entry)) s at r) × SoundAnswer (now (book .entry)) at r ⌝ }
-{
-    let cause = off_balance_cause(&book[at..]);
-    if cause != causes::NONE {
-        return ItemAnswer::Refused {
-            number: cause,
-            place: at,
-        };
-    }
-    let passed = off_balance_items(book, at, s, bands);
-    let sums = passed.sums;
-    ItemAnswer::More(sums, passed.next)
-}
-
 // Kind 15: "payload is the count of words before it; nothing follows".
-fn end_at(book: &[u32], at: usize, s: Sums, bands: Bands) -> ItemAnswer
-    requires { ⌜ SumsUpTo (now book) s at × (stands 15 (now book) at ≡ true) ⌝ }
-    ensures { λ r. ⌜ (fromItem bands (now (book .entry)) s at ≡ answerAhead bands (now (book .entry)) s at r) × SoundAnswer (now (book .entry)) at r ⌝ }
+fn end_fault(book: &[u32], at: usize) -> u32
+    requires { ⌜ Readable (suc at) (now book) ⌝ }
+    ensures { λ r. ⌜ r ≡ endFault (now (book .entry)) at ⌝ }
 {
-    if payload(book[at]) as usize != at {
-        return ItemAnswer::Refused {
-            number: causes::END_FAULTY,
-            place: at,
-        };
-    }
-    if book.len() != at + 1 {
-        return ItemAnswer::Refused {
-            number: causes::END_FAULTY,
-            place: at,
-        };
-    }
-    ItemAnswer::End
+    let miscounted = payload(book[at]) as usize != at;
+    let followed = book.len() != at + 1;
+    cause(
+        causes::END_FAULTY,
+        either(miscounted, followed),
+        causes::NONE,
+    )
 }

@@ -1,78 +1,85 @@
-// Runs of assets and of off-balance items: loops of their own, in which the other sums stay as they are.
-use records::ItemStep;
-use records::assets::asset;
-use records::commitments::off_balance;
+// Runs of assets and of off-balance items: loops of their own, which carry two sums; the others stay as they are.
+use crate::items::ItemAnswer;
+use records::assets::asset_cause;
+use records::assets::asset_sums;
+use records::assets::asset_words;
+use records::assets::carried_by;
+use records::assets::deducted_by;
+use records::assets::good_asset;
+use records::commitments::good_off_balance;
+use records::commitments::off_balance_cause;
+use records::commitments::off_balance_sums;
+use records::commitments::off_balance_words;
+use records::commitments::unconverted_by;
 use records::presence::standing;
-use rules::Bands;
+use records::sums::plus;
 use rules::Sums;
+use rules::amounts;
 use rules::kinds;
+use rules::lengths;
+use weights::conversion::conversion_figures;
+use words::amount::size;
+use words::numbers::wide;
 ghost use mathlib.Core.Path.{_≡_};
 ghost use mathlib.Core.Bool.{true};
-ghost use lib.ListN.{drop};
+ghost use Prim.Native.Nat.{_-_};
 ghost use denote.Ref.{now};
 ghost use Rattle.rules.specs.Read.{stands};
-ghost use Rattle.records.specs.Step.{assetCause, offBalanceCause};
 ghost use Rattle.reading.specs.Steps.{SumsUpTo};
-ghost use Rattle.reading.specs.Ahead.{Onward};
+ghost use Rattle.reading.specs.Ahead.{AnswersItem};
 
-// The sums and the place behind some items.
-pub struct Passed {
-    pub sums: Sums,
-    pub next: usize,
+// The first place at which a record of so many amounts has no room any more.
+fn end_of(length: usize, amounts: usize) -> usize
+    ensures { λ r. ⌜ r ≡ length - amounts ⌝ }
+{
+    if length < amounts {
+        0
+    } else {
+        length - amounts
+    }
 }
 
-// From a good asset up to the first word that begins none, or one with a fault.
-pub fn assets(book: &[u32], from: usize, s: Sums, bands: Bands) -> Passed
-    requires { ⌜ SumsUpTo (now book) s from × ((stands 2 (now book) from ≡ true) × (assetCause (drop from (now book)) ≡ 0)) ⌝ }
-    ensures { λ r. ⌜ Onward bands (now (book .entry)) s from (r .sums) (r .next) ⌝ }
+// From an asset up to the first word that begins none, or to one with a fault.
+pub fn assets(book: &[u32], from: usize, s: Sums) -> ItemAnswer
+    requires { ⌜ SumsUpTo (now book) s from × (stands 2 (now book) from ≡ true) ⌝ }
+    ensures { λ r. ⌜ AnswersItem (now (book .entry)) s from r ⌝ }
 {
-    let mut t = s;
+    let end = end_of(book.len(), amounts::ASSET);
+    let mut carried = 0u64;
+    let mut deducted = 0u64;
     let mut at = from;
-    while standing(book, at, kinds::ASSET) {
-        let part = &book[at..];
-        match asset(part, t, bands) {
-            ItemStep::Next(sums, next) => {
-                t = sums;
-                at = at + next;
-            }
-            ItemStep::Refused {
-                number: _,
-                place: _,
-            } => {
-                return Passed { sums: t, next: at };
-            }
-        }
+    while good_asset(book, at, end) {
+        let a = asset_words(book, at);
+        carried = carried + carried_by(a);
+        deducted = deducted + deducted_by(a);
+        at += lengths::ASSET;
     }
-    Passed { sums: t, next: at }
+    if standing(book, at, kinds::ASSET) {
+        let number = asset_cause(&book[at..]);
+        return ItemAnswer::Refused { number, place: at };
+    }
+    ItemAnswer::More(plus(s, asset_sums(carried, deducted)), at)
 }
 
 // The same of off-balance items.
-pub fn off_balance_items(book: &[u32], from: usize, s: Sums, bands: Bands) -> Passed
-    requires { ⌜ SumsUpTo (now book) s from × ((stands 10 (now book) from ≡ true) × (offBalanceCause (drop from (now book)) ≡ 0)) ⌝ }
-    ensures { λ r. ⌜ Onward bands (now (book .entry)) s from (r .sums) (r .next) ⌝ }
+pub fn off_balance_items(book: &[u32], from: usize, s: Sums) -> ItemAnswer
+    requires { ⌜ SumsUpTo (now book) s from × (stands 10 (now book) from ≡ true) ⌝ }
+    ensures { λ r. ⌜ AnswersItem (now (book .entry)) s from r ⌝ }
 {
-    let mut t = s;
-    let mut place = from;
-    while standing(book, place, kinds::OFF_BALANCE) {
-        let part = &book[place..];
-        match off_balance(part, t, bands) {
-            ItemStep::Next(sums, next) => {
-                t = sums;
-                place = place + next;
-            }
-            ItemStep::Refused {
-                number: _,
-                place: _,
-            } => {
-                return Passed {
-                    sums: t,
-                    next: place,
-                };
-            }
-        }
+    let end = end_of(book.len(), amounts::OFF_BALANCE);
+    let figures = conversion_figures();
+    let mut notionals = 0u64;
+    let mut unconverted = 0u64;
+    let mut at = from;
+    while good_off_balance(book, at, end, &figures) {
+        let o = off_balance_words(book, at);
+        notionals = notionals + wide(size(o.notional));
+        unconverted = unconverted + unconverted_by(o, &figures);
+        at += lengths::OFF_BALANCE;
     }
-    Passed {
-        sums: t,
-        next: place,
+    if standing(book, at, kinds::OFF_BALANCE) {
+        let number = off_balance_cause(&book[at..]);
+        return ItemAnswer::Refused { number, place: at };
     }
+    ItemAnswer::More(plus(s, off_balance_sums(notionals, unconverted)), at)
 }

@@ -1,15 +1,16 @@
 // One step of the reading: the protections, what stands where an item is due, or the members of a derivative set up to the next cover.
 use crate::Admission;
 use crate::cursor::Cursor;
-use crate::cursor::no_sums;
 use crate::items::ItemAnswer;
 use crate::items::item_at;
 use crate::protections::Protections;
 use crate::protections::read_protections;
+use derivatives::read::set_words;
 use derivatives::rows::with_set;
 use derivatives::set::OpenSet;
 use derivatives::set::Weighed;
 use derivatives::set::weigh;
+use records::sums::no_sums;
 use rules::Bands;
 use rules::Draw;
 use words::parts::payload;
@@ -36,7 +37,7 @@ pub fn next_step(book: &[u32], c: Cursor, bands: Bands) -> Step
     if c.inside {
         return set_step(book, c, bands);
     }
-    item_step(book, c, bands)
+    item_step(book, c)
 }
 
 // "exactly b of them after the head"
@@ -80,7 +81,7 @@ fn set_step(book: &[u32], c: Cursor, bands: Bands) -> Step
             begun: true,
             inside: false,
             at: at + place,
-            sums: with_set(sums, part[0], part[1], part[2], part[3], t),
+            sums: with_set(sums, set_words(part), t),
             set: OpenSet::new(),
         }),
         Weighed::Refused { number, place } => Step::Ended(Admission::Refused {
@@ -90,13 +91,13 @@ fn set_step(book: &[u32], c: Cursor, bands: Bands) -> Step
     }
 }
 
-fn item_step(book: &[u32], c: Cursor, bands: Bands) -> Step
-    requires { ⌜ Sound (now book) c × ((c .begun ≡ true) × ((c .inside ≡ false) × (bands ≡ headOf (now book) .bands))) ⌝ }
+fn item_step(book: &[u32], c: Cursor) -> Step
+    requires { ⌜ Sound (now book) c × ((c .begun ≡ true) × (c .inside ≡ false)) ⌝ }
     ensures { λ r. ⌜ (ahead (now (book .entry)) c ≡ stepAhead (now (book .entry)) r) × SoundStep (now (book .entry)) c r ⌝ }
 {
     let at = c.at;
     let sums = c.sums;
-    match item_at(book, at, sums, bands) {
+    match item_at(book, at, sums) {
         ItemAnswer::More(more, next) => Step::On(Cursor {
             begun: true,
             inside: false,

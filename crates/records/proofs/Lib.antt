@@ -1,3 +1,3 @@
 pub mod Words
-pub mod AssetLaws
-pub mod OffBalanceLaws
+pub mod Good
+pub mod SumLaws

@@ -13,6 +13,7 @@ use Rattle.rules.specs.Word.{word, kindOf, amountsOfKind}
 use Rattle.rules.specs.Run.{Turn, bad, sound}
 use Rattle.rules.specs.Read.{lacks, recordThen, stands}
 use Rattle.theorems.proofs.Records.{lacks-room}
+use Rattle.records.specs.Readable.{Readable}
 
 -- ---- the loop of `lacking`: i is what it has come to, and `other` what it has seen of the words behind
 
@@ -47,6 +48,10 @@ standing-there ws at k n h q = simp (lt-ltb at (length ws) h, q)
 -- as a call of `lacking` gave it
 pub room : (n k : ℕ) (ws : List ℕ) (at : ℕ) (r : Bool) → r ≡ lacks n ws at → r ≡ false → at < length ws → k ≤ n → at + k < length ws
 room n k ws at r q e h l = omega (arith, lacks-room n ws at (sym q ∙ e) h)
+
+-- all words of a record that lacks none are there
+pub whole : (n : ℕ) {ws : List ℕ} {at : ℕ} {r : Bool} → r ≡ lacks n ws at → r ≡ false → Readable (suc at) ws → Readable (at + suc n) ws
+whole n {ws} {at} q e s = record { within = omega (arith, lacks-room n ws at (sym q ∙ e) (s .within)); short = s .short }
 
 -- ---- a record of a known kind, by what is lacking and by its own fault
 

@@ -1,2 +1,4 @@
 pub mod Readable
+pub mod Cause
+pub mod Sums
 pub mod Step

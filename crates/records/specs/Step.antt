@@ -1,85 +1,30 @@
--- What the reading makes of an item: the sums that it has gathered so far, with the item's part of each row. Assumes nothing.
-use Prim.Native.Nat.{ℕ, zero, suc, _+_, _-_, _*_, _^_, _≤_}
-use mathlib.Core.Bool.{cond}
-use mathlib.Core.List.{List}
+-- What the reading makes of an item: its words, its causes, and the sums that it has gathered so far with the item's part of each row.
+-- Assumes nothing.
+use Prim.Native.Nat.{ℕ, zero, suc, _+_, _*_, _^_}
+use mathlib.Core.Bool.{Bool, not, _&&_}
+use mathlib.Core.List.{List, [], _∷_}
+use lib.Dec.{eqb, leb}
+use lib.ListN.{drop}
 use Rattle.rules.specs.declared.Bands.{Bands}
 use Rattle.rules.specs.declared.Sums.{Sums}
-use Rattle.rules.specs.Word.{word, fieldOf, bitOf, sizeOf}
+use Rattle.rules.specs.Word.{word, kindOf, payloadOf, fieldOf, sizeOf, faultyAmount}
 use Rattle.rules.specs.Faults.{assetFault, offBalanceFault}
 use Rattle.rules.specs.Factors.{conversionOf}
-use Rattle.rules.specs.Read.{lacks}
+use Rattle.rules.specs.Read.{stands}
 use Rattle.rules.specs.Book.{Item}
 use Rattle.rules.specs.Run.{Turn, over, bad, some}
-use Rattle.rules.specs.Rows.{row1, row2, row4, row5, row6, row7, row8, row9, row10, row12, row13, row14, row15, row17, row18}
+use Rattle.records.specs.declared.assets.AssetWords.{AssetWords}
+use Rattle.records.specs.declared.commitments.OffBalanceWords.{OffBalanceWords}
 use Rattle.records.specs.declared.ItemStep.{ItemStep}
 use Rattle.records.specs.declared.ItemStep.the-variants.{Next, Refused}
+use Rattle.records.specs.Cause.{recordCause}
+use Rattle.records.specs.Sums.{plus, itemSums}
+
+-- ---- an item in the sums
 
 -- the sums with one item more
 abbrev pub plusItem : Bands → Sums → Item → Sums
-plusItem bands s i = record {
-  assets = s .assets + row1 bands i;
-  deducted = s .deducted + row2 bands i;
-  replacement = s .replacement + row4 bands i;
-  weighted = s .weighted + row5 bands i;
-  posted = s .posted + row6 bands i;
-  offset = s .offset + row7 bands i;
-  exempt = s .exempt + row8 bands i;
-  written = s .written + row9 bands i;
-  covered = s .covered + row10 bands i;
-  financed = s .financed + row12 i;
-  netted = s .netted + row13 i;
-  principal = s .principal + row14 i;
-  agent = s .agent + row15 i;
-  committed = s .committed + row17 i;
-  unconverted = s .unconverted + row18 i;
-}
-
--- with an asset of these words
-unfoldable pub plusAsset : Sums → (w carrying provision deducted : ℕ) → Sums
-plusAsset s w carrying provision deducted = record {
-  assets = s .assets + cond (bitOf 0 w) 0 (1000 * (sizeOf carrying - sizeOf provision));
-  deducted = s .deducted + cond (bitOf 0 w) 0 (1000 * sizeOf deducted);
-  replacement = s .replacement;
-  weighted = s .weighted;
-  posted = s .posted;
-  offset = s .offset;
-  exempt = s .exempt;
-  written = s .written;
-  covered = s .covered;
-  financed = s .financed;
-  netted = s .netted;
-  principal = s .principal;
-  agent = s .agent;
-  committed = s .committed;
-  unconverted = s .unconverted;
-}
-
--- with an off-balance item of these words
-unfoldable pub plusOffBalance : Sums → (w notional : ℕ) → Sums
-plusOffBalance s w notional = record {
-  assets = s .assets;
-  deducted = s .deducted;
-  replacement = s .replacement;
-  weighted = s .weighted;
-  posted = s .posted;
-  offset = s .offset;
-  exempt = s .exempt;
-  written = s .written;
-  covered = s .covered;
-  financed = s .financed;
-  netted = s .netted;
-  principal = s .principal;
-  agent = s .agent;
-  committed = s .committed + 1000 * sizeOf notional;
-  unconverted = s .unconverted + (1000 - conversionOf (fieldOf 0 4 w) (fieldOf 4 4 w)) * sizeOf notional;
-}
-
--- the causes 6 to 9 of an asset and of an off-balance item
-unfoldable pub assetCause : List ℕ → ℕ
-assetCause ws = cond (lacks 3 ws 0) 6 (assetFault (word ws 0) (word ws 1) (word ws 2) (word ws 3))
-
-unfoldable pub offBalanceCause : List ℕ → ℕ
-offBalanceCause ws = cond (lacks 1 ws 0) 6 (offBalanceFault (word ws 0) (word ws 1))
+plusItem bands s i = plus s (itemSums bands i)
 
 -- an item's turn is never over
 abbrev pub itemStep : Bands → Sums → Turn Item → ItemStep
@@ -88,20 +33,90 @@ itemStep bands s (bad number place) = Refused number place
 itemStep bands s (some i zero next) = Next (plusItem bands s i) next
 itemStep bands s (some i (suc number) place) = Refused (suc number) place
 
--- the sums leave room for one item more
-pub record SumsRoomy (s : Sums) : Type 0 where
-  pub assets : s .assets ≤ 2 ^ 61
-  pub deducted : s .deducted ≤ 2 ^ 61
-  pub replacement : s .replacement ≤ 2 ^ 61
-  pub weighted : s .weighted ≤ 2 ^ 61
-  pub posted : s .posted ≤ 2 ^ 61
-  pub offset : s .offset ≤ 2 ^ 61
-  pub exempt : s .exempt ≤ 2 ^ 61
-  pub written : s .written ≤ 2 ^ 61
-  pub covered : s .covered ≤ 2 ^ 61
-  pub financed : s .financed ≤ 2 ^ 61
-  pub netted : s .netted ≤ 2 ^ 61
-  pub principal : s .principal ≤ 2 ^ 61
-  pub agent : s .agent ≤ 2 ^ 61
-  pub committed : s .committed ≤ 2 ^ 61
-  pub unconverted : s .unconverted ≤ 2 ^ 61
+-- an amount, and not negative
+abbrev pub plainAmount : ℕ → Bool
+plainAmount w = eqb (kindOf w) 0 && not (faultyAmount w)
+
+-- ---- assets
+
+-- the words of an asset at a place, and as a list
+abbrev pub assetWords : List ℕ → ℕ → AssetWords
+assetWords ws at = record { head = word ws at; carrying = word ws (at + 1); provision = word ws (at + 2); deducted = word ws (at + 3) }
+
+abbrev pub assetList : AssetWords → List ℕ
+assetList a = a .head ∷ a .carrying ∷ a .provision ∷ a .deducted ∷ []
+
+-- the causes 6 to 9
+unfoldable pub assetCause : List ℕ → ℕ
+assetCause ws = recordCause 3 ws 0 (assetFault (word ws 0) (word ws 1) (word ws 2) (word ws 3))
+
+-- none of them, in as few tests as there are words
+unfoldable pub goodAsset : AssetWords → Bool
+goodAsset a =
+    eqb (kindOf (a .head)) 2 && not (leb 2 (payloadOf (a .head)))
+    && (plainAmount (a .carrying) && plainAmount (a .provision) && plainAmount (a .deducted))
+    && leb (sizeOf (a .provision) + sizeOf (a .deducted)) (sizeOf (a .carrying))
+
+-- what assets bring that come to so much in units
+abbrev pub assetSums : (carried deducted : ℕ) → Sums
+assetSums carried deducted = record {
+  assets = 1000 * carried;
+  deducted = 1000 * deducted;
+  replacement = 0;
+  weighted = 0;
+  posted = 0;
+  offset = 0;
+  exempt = 0;
+  written = 0;
+  covered = 0;
+  financed = 0;
+  netted = 0;
+  principal = 0;
+  agent = 0;
+  committed = 0;
+  unconverted = 0;
+}
+
+-- ---- off-balance items
+
+abbrev pub offBalanceWords : List ℕ → ℕ → OffBalanceWords
+offBalanceWords ws at = record { head = word ws at; notional = word ws (at + 1) }
+
+abbrev pub offBalanceList : OffBalanceWords → List ℕ
+offBalanceList o = o .head ∷ o .notional ∷ []
+
+-- the causes 6 to 8
+unfoldable pub offBalanceCause : List ℕ → ℕ
+offBalanceCause ws = recordCause 1 ws 0 (offBalanceFault (word ws 0) (word ws 1))
+
+-- none of them: a class that is faulty has no figure
+unfoldable pub goodOffBalance : OffBalanceWords → Bool
+goodOffBalance o =
+    eqb (kindOf (o .head)) 10 && not (leb (2 ^ 8) (payloadOf (o .head)))
+    && plainAmount (o .notional)
+    && not (eqb (conversionOf (fieldOf 0 4 (o .head)) (fieldOf 4 4 (o .head))) 0)
+
+-- what off-balance items bring of such notionals in units, and such an unconverted part in thousandths
+abbrev pub offBalanceSums : (notionals unconverted : ℕ) → Sums
+offBalanceSums notionals unconverted = record {
+  assets = 0;
+  deducted = 0;
+  replacement = 0;
+  weighted = 0;
+  posted = 0;
+  offset = 0;
+  exempt = 0;
+  written = 0;
+  covered = 0;
+  financed = 0;
+  netted = 0;
+  principal = 0;
+  agent = 0;
+  committed = 1000 * notionals;
+  unconverted = unconverted;
+}
+
+-- ---- a record of some kind that stands at a place and has no fault
+
+abbrev pub soundAt : (kind : ℕ) (cause : List ℕ → ℕ) → List ℕ → ℕ → Bool
+soundAt kind cause ws at = stands kind ws at && eqb (cause (drop at ws)) 0

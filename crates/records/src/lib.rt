@@ -4,6 +4,7 @@ use rules::Sums;
 pub mod assets;
 pub mod commitments;
 pub mod presence;
+pub mod sums;
 
 // What stands at an item's head: the sums with the item in them and the place behind it, or the number and the place of the first
 // fault. Places count from the item's head.

@@ -1,8 +1,8 @@
 // Whether the words of a record are there.
 use rules::kinds;
+use words::numbers::either;
 use words::parts::kind;
 ghost use mathlib.Core.Path.{_≡_};
-ghost use mathlib.Core.Bool.{_||_};
 ghost use Prim.Native.Nat.{_≤_, _<_};
 ghost use denote.Ref.{now};
 ghost use Rattle.rules.specs.Read.{lacks, stands};
@@ -23,12 +23,6 @@ pub fn lacking(ws: &[u32], at: usize, n: usize) -> bool
         i -= 1;
     }
     other
-}
-
-fn either(a: bool, b: bool) -> bool
-    ensures { λ r. ⌜ r ≡ (a || b) ⌝ }
-{
-    if a { true } else { b }
 }
 
 // A record of a kind stands at a place.

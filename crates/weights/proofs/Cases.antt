@@ -1,14 +1,13 @@
--- The band, the factor of a market trade and the conversion figure at each of their cases, as the code tells them apart: by orders
--- of numbers. Assumes nothing.
-use mathlib.Core.Path.{_≡_, refl, sym, ap, _∙_}
+-- The band and the factor of a market trade at each of their cases, as the code tells them apart: by orders of numbers.
+-- Assumes nothing.
+use mathlib.Core.Path.{_≡_, refl, sym}
 use mathlib.Core.Bool.{Bool, true, false, cond, _&&_}
-use Prim.Native.Nat.{ℕ, max, min, _+_, _-_, _*_, _≤_, _<_}
-use native.Mathlib.Nat.{zero-max, one-mul, zero-mul}
-use native.Mathlib.Omega.{arith}
-use borrow.Author.Tests.{le-leb, lt-leb, eqb-true, eqb-false}
+use Prim.Native.Nat.{ℕ, max, _≤_, _<_}
+use native.Mathlib.Nat.{zero-max}
+use borrow.Author.Tests.{le-leb, lt-leb}
 use lib.Dec.{eqb, ltb}
 use Rattle.rules.specs.declared.Bands.{Bands}
-use Rattle.rules.specs.Factors.{bandOf, factorAt, marketFactor, conversionAt, conversionOf}
+use Rattle.rules.specs.Factors.{bandOf, factorAt, marketFactor}
 
 -- ---- bands
 
@@ -37,35 +36,3 @@ module _ (bands : Bands) (class days reset : ℕ) where
       floored : (b : Bool) (figure : ℕ) → cond b (max 5 figure) figure ≡ max (cond b 5 0) figure
       floored true figure = refl
       floored false figure = sym (zero-max figure)
-
--- ---- conversion
-
--- the second class by counting: `none` is 1 where nothing is committed to
-pub record Counted (class committed none : ℕ) (b : Bool) : Type 0 where
-  pub some : 0 < committed + none
-  pub small : committed + none ≤ max 1 committed
-  pub own : none * class ≤ class
-  pub at-most : committed + none - 1 + none * class ≤ max class committed
-  pub is : committed + none - 1 + none * class ≡ cond b class (committed - 1)
-
-pub counted : (class committed none : ℕ) → none ≡ cond (eqb committed 0) 1 0 → Counted class committed none (eqb committed 0)
-counted class committed none e = go (eqb committed 0) refl e
-  where
-    go : (b : Bool) → eqb committed 0 ≡ b → none ≡ cond b 1 0 → Counted class committed none b
-    go true z e =
-        let m : none * class ≡ class = ap (λ (k : ℕ). k * class) e ∙ one-mul class in
-        let c = eqb-true committed 0 z in
-        record { some = omega arith; small = omega arith; own = omega arith; at-most = omega arith; is = omega arith }
-    go false z e =
-        let m : none * class ≡ 0 = ap (λ (k : ℕ). k * class) e ∙ zero-mul class in
-        let c : committed ≡ 0 → ⊥ = eqb-false committed 0 z in
-        record { some = omega arith; small = omega arith; own = omega arith; at-most = omega arith; is = omega arith }
-
--- the lower of the two figures, which are one where nothing is committed to
-pub conversion-lower : (class committed : ℕ) → conversionOf class committed ≡ min (conversionAt class) (conversionAt (cond (eqb committed 0) class (committed - 1)))
-unfolding conversionOf
-conversion-lower class committed = go (eqb committed 0)
-  where
-    go : (b : Bool) → cond b (conversionAt class) (min (conversionAt class) (conversionAt (committed - 1))) ≡ min (conversionAt class) (conversionAt (cond b class (committed - 1)))
-    go true = omega arith
-    go false = refl

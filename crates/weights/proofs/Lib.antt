@@ -1,3 +1,4 @@
 pub mod Division
 pub mod Cases
 pub mod Beyond
+pub mod Figures

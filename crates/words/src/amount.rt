@@ -3,7 +3,9 @@ use crate::parts::bit;
 use crate::parts::payload;
 use rules::limits;
 ghost use mathlib.Core.Path.{_≡_};
-ghost use Rattle.rules.specs.Word.{bitOf, faultyAmount, faultyDays, gainOf, lossOf, minusZero, sizeOf};
+ghost use mathlib.Core.Bool.{not, _&&_};
+ghost use lib.Dec.{eqb};
+ghost use Rattle.rules.specs.Word.{bitOf, kindOf, faultyAmount, faultyDays, gainOf, lossOf, minusZero, sizeOf};
 
 pub fn size(w: u32) -> u32
     ensures { λ r. ⌜ r ≡ sizeOf w ⌝ }
@@ -57,4 +59,11 @@ pub fn faulty_days(w: u32) -> bool
     ensures { λ r. ⌜ r ≡ faultyDays w ⌝ }
 {
     payload(w) > limits::DAYS
+}
+
+// An amount, and not negative: as one test of the whole word.
+pub fn plain_amount(w: u32) -> bool
+    ensures { λ r. ⌜ r ≡ (eqb (kindOf w) 0 && not (faultyAmount w)) ⌝ }
+{
+    w < 0x08000000
 }

@@ -1,5 +1,5 @@
 // Numbers of 64 bits from amounts, and values chosen by what the data says: the machine chooses between two values without a branch.
-ghost use mathlib.Core.Bool.{cond};
+ghost use mathlib.Core.Bool.{cond, _||_, _&&_};
 ghost use mathlib.Core.Path.{_≡_};
 ghost use Prim.Native.Nat.{_+_, _-_, _≤_, min};
 
@@ -44,4 +44,24 @@ pub fn chosen(mark: bool, marked: u64, other: u64) -> u64
         return marked;
     }
     other
+}
+
+// Of two tests that are made anyway, so that no branch hangs on the first.
+pub fn either(a: bool, b: bool) -> bool
+    ensures { λ r. ⌜ r ≡ (a || b) ⌝ }
+{
+    if a { true } else { b }
+}
+
+pub fn both(a: bool, b: bool) -> bool
+    ensures { λ r. ⌜ r ≡ (a && b) ⌝ }
+{
+    if a { b } else { false }
+}
+
+// A mark as a number, to multiply by it.
+pub fn one_if(b: bool) -> u32
+    ensures { λ r. ⌜ r ≡ cond b 1 0 ⌝ }
+{
+    b as u32
 }

@@ -3,6 +3,7 @@ use mathlib.Core.Path.{_∙_}
 use Prim.Native.Nat.{_-_, _≤_}
 use native.Mathlib.Omega.{arith}
 use borrow.Author.Needs.{needs}
+use Rattle.rules.specs.Read.{derivativeSetAt}
 use Rattle.derivatives.proofs.SetRows.{replaced-under, weighted-under, weighted-less, replaced-is, weighted-is, with-set-is}
 use Rattle.derivatives.proofs.rows.with_set.Statement.{statement}
 use Rattle.derivatives.proofs.rows.with_set.Tie as tie
@@ -23,21 +24,6 @@ rest-small k = weighted-under _ _ _ _ _ (k .weighted-rest .ensures)
 
 -- ---- the needs
 
-bit-requires : tie.Need-bit-requires
-bit-requires c κs = search needs
-
-margin-counts-requires : tie.Need-margin-counts-requires
-margin-counts-requires c κs = search needs
-
-size-requires : tie.Need-size-requires
-size-requires c κs = search needs
-
-wide-requires : tie.Need-wide-requires
-wide-requires c κs = search needs
-
-chosen-requires : tie.Need-chosen-requires
-chosen-requires c κs = search needs
-
 add-with-margin : tie.Need-add-with-margin
 add-with-margin c =
     omega (
@@ -48,29 +34,8 @@ add-with-margin c =
       c .before .chosen .ensures .1,
     )
 
-replacement-requires : tie.Need-replacement-requires
-replacement-requires c κs = search needs
-
 mul-replaced : tie.Need-mul-replaced
 mul-replaced c = omega (arith, c .before .before .before .before .before .before .before .pre .1 .weight, replaced-under _ _ _ _ (c .replacement .ensures))
-
-weighted-in-requires : tie.Need-weighted-in-requires
-weighted-in-requires c κs = search needs
-
-weighted-rest-requires : tie.Need-weighted-rest-requires
-weighted-rest-requires c κs = search needs
-
-size-requires-2 : tie.Need-size-requires-2
-size-requires-2 c κs = search needs
-
-wide-requires-2 : tie.Need-wide-requires-2
-wide-requires-2 c κs = search needs
-
-mul-cash-paid : tie.Need-mul-cash-paid
-mul-cash-paid c = search needs
-
-add-s : tie.Need-add-s
-add-s c = search needs
 
 add-s-2 : tie.Need-add-s-2
 add-s-2 c =
@@ -82,22 +47,10 @@ add-s-3 c =
     let k = c .before .before .before .before .before in
     omega (arith, entry k .pre .0 .weighted, entry k .pre .1 .weight, gross-small k)
 
-size-requires-3 : tie.Need-size-requires-3
-size-requires-3 c κs = search needs
-
-wide-requires-3 : tie.Need-wide-requires-3
-wide-requires-3 c κs = search needs
-
-mul-s : tie.Need-mul-s
-mul-s c = search needs
-
 add-s-4 : tie.Need-add-s-4
 add-s-4 c =
     let k = c .before .before .before .before .before .before .before .before in
     omega (arith, entry k .pre .0 .posted, c .before .wide3 .ensures, c .before .before .size3 .ensures)
-
-chosen-requires-2 : tie.Need-chosen-requires-2
-chosen-requires-2 c κs = search needs
 
 add-s-5 : tie.Need-add-s-5
 add-s-5 c =
@@ -111,16 +64,10 @@ add-s-5 c =
       c .before .chosen2 .ensures .1,
     )
 
-bit-requires-2 : tie.Need-bit-requires-2
-bit-requires-2 c κs = search needs
-
 add-chosen : tie.Need-add-chosen
 add-chosen c =
     let k = c .before .before .before .before .before .before .before .before .before .before .before in
     omega (arith, entry k .pre .1 .weight, replaced-small k, rest-small k)
-
-chosen-requires-3 : tie.Need-chosen-requires-3
-chosen-requires-3 c κs = search needs
 
 add-s-6 : tie.Need-add-s-6
 add-s-6 c =
@@ -165,46 +112,47 @@ add-s-9 c =
     omega (arith, entry k .pre .0 .covered, entry k .pre .1 .weight, gross-small k)
 
 returns : tie.Need-returns
+unfolding derivativeSetAt
 returns c =
     let k = c .before .before .before .before .before .before .before .before .before .before .before .before .before .before .before .before .before in
     let a = entry k .args in
     let netting = k .before .before .before .before .before .before .before .before .bit .ensures in
     let counts = k .before .before .before .before .before .before .before .margin-counts .ensures in
-    with-set-is (a .w) (a .received) (a .paid) (a .posted) (a .t) (a .s) _ _ _ _ _ _ _ _ _ counts (c .before .before .before .before .before .before .bit2 .ensures) (c .before .before .before .before .before .before .before .before .before .before .before .before .before .before .before .wide2 .ensures ∙ c .before .before .before .before .before .before .before .before .before .before .before .before .before .before .before .before .size2 .ensures)
+    with-set-is (a .d) (a .t) (a .s) _ _ _ _ _ _ _ _ _ counts (c .before .before .before .before .before .before .bit2 .ensures) (c .before .before .before .before .before .before .before .before .before .before .before .before .before .before .before .wide2 .ensures ∙ c .before .before .before .before .before .before .before .before .before .before .before .before .before .before .before .before .size2 .ensures)
     (c .before .before .before .before .before .before .before .before .before .before .wide3 .ensures ∙ c .before .before .before .before .before .before .before .before .before .before .before .size3 .ensures) (c .before .before .before .before .before .before .before .before .chosen2 .ensures .0) (c .before .before .before .before .before .chosen3 .ensures .0)
-    (replaced-is (a .w) (a .received) (a .paid) (a .posted) (a .t) _ _ _ _ _ netting counts (k .before .before .before .before .before .wide .ensures ∙ k .before .before .before .before .before .before .size .ensures) (k .before .before .before .before .chosen .ensures .0) (k .before .before .replacement .ensures))
-    (weighted-is (a .w) (a .received) (a .paid) (a .posted) (a .t) _ _ _ netting (k .before .weighted-in .ensures))
-    (weighted-is (a .w) (a .received) (a .paid) (a .posted) (a .t) _ _ _ netting (k .weighted-rest .ensures))
+    (replaced-is (a .d) (a .t) _ _ _ _ _ netting counts (k .before .before .before .before .before .wide .ensures ∙ k .before .before .before .before .before .before .size .ensures) (k .before .before .before .before .chosen .ensures .0) (k .before .before .replacement .ensures))
+    (weighted-is (a .d) (a .t) _ _ _ netting (k .before .weighted-in .ensures))
+    (weighted-is (a .d) (a .t) _ _ _ netting (k .weighted-rest .ensures))
 
 pub with-set-spec : {M : Type 1} → statement M
 with-set-spec =
     tie.close
     (tie.spec
-    bit-requires
-    margin-counts-requires
-    size-requires
-    wide-requires
-    chosen-requires
+    (search needs)
+    (search needs)
+    (search needs)
+    (search needs)
+    (search needs)
     add-with-margin
-    replacement-requires
+    (search needs)
     mul-replaced
-    weighted-in-requires
-    weighted-rest-requires
-    size-requires-2
-    wide-requires-2
-    mul-cash-paid
-    add-s
+    (search needs)
+    (search needs)
+    (search needs)
+    (search needs)
+    (search needs)
+    (search needs)
     add-s-2
     add-s-3
-    size-requires-3
-    wide-requires-3
-    mul-s
+    (search needs)
+    (search needs)
+    (search needs)
     add-s-4
-    chosen-requires-2
+    (search needs)
     add-s-5
-    bit-requires-2
+    (search needs)
     add-chosen
-    chosen-requires-3
+    (search needs)
     add-s-6
     mul-s-2
     add-s-7

@@ -12,13 +12,10 @@ abbrev μ-loop : tie.MeasureT-loop
 μ-loop part begin bands o₀ o = length part - o .at
 
 loop-holds : tie.Need-loop-holds Inv-loop μ-loop
-loop-holds c = weighing-start _ _ _ _ (c .before .pre)
+loop-holds c = weighing-start _ _ _ _ (c .before .pre .0)
 
 member-requires : tie.Need-member-requires Inv-loop μ-loop
-member-requires c κs = c .loop .inv .sound
-
-enum-known-next : tie.Need-enum-known-next Inv-loop μ-loop
-enum-known-next c = search needs
+member-requires c κs = (c .loop .inv .sound, c .before .before .pre .1)
 
 loop-less : tie.Need-loop-less Inv-loop μ-loop
 loop-less c = weighing-onward _ _ _ _ _ (c .before .before .before .before .loop .inv) _ (c .before .before .before .member .ensures) _ (c .before .next .given .1)
@@ -26,20 +23,11 @@ loop-less c = weighing-onward _ _ _ _ _ (c .before .before .before .before .loop
 loop-again : tie.Need-loop-again Inv-loop μ-loop
 loop-again c = weighing-next _ _ _ _ _ (c .before .before .before .before .loop .inv) _ (c .before .before .before .member .ensures) _ (c .before .next .given .1)
 
-enum-known-draw : tie.Need-enum-known-draw Inv-loop μ-loop
-enum-known-draw c = search needs
-
 returns : tie.Need-returns Inv-loop μ-loop
 returns c = weighing-cover _ _ _ _ _ (c .before .before .before .before .loop .inv) _ (c .before .before .before .member .ensures) _ _ (c .before .draw .given .1)
 
-enum-known-t : tie.Need-enum-known-t Inv-loop μ-loop
-enum-known-t c = search needs
-
 returns-2 : tie.Need-returns-2 Inv-loop μ-loop
 returns-2 c = weighing-ends _ _ _ _ _ (c .before .before .before .before .loop .inv) _ (c .before .before .before .member .ensures) _ (c .before .t .given .1)
-
-enum-known-number : tie.Need-enum-known-number Inv-loop μ-loop
-enum-known-number c = search needs
 
 returns-3 : tie.Need-returns-3 Inv-loop μ-loop
 returns-3 c = weighing-refused _ _ _ _ _ (c .before .before .before .before .loop .inv) _ (c .before .before .before .member .ensures) _ _ (c .before .number .given .1)
@@ -52,12 +40,12 @@ weigh-spec =
     μ-loop
     loop-holds
     member-requires
-    enum-known-next
+    (search needs)
     loop-less
     loop-again
-    enum-known-draw
+    (search needs)
     returns
-    enum-known-t
+    (search needs)
     returns-2
-    enum-known-number
+    (search needs)
     returns-3)

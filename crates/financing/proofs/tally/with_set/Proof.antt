@@ -6,12 +6,6 @@ use Rattle.financing.specs.Weighing.{plusSet}
 use Rattle.financing.proofs.tally.with_set.Statement.{statement}
 use Rattle.financing.proofs.tally.with_set.Tie as tie
 
-bit-requires : tie.Need-bit-requires
-bit-requires c κs = search needs
-
-excess-requires : tie.Need-excess-requires
-excess-requires c κs = search needs
-
 mul-excess : tie.Need-mul-excess
 mul-excess c =
     let a = c .before .before .args in
@@ -19,30 +13,6 @@ mul-excess c =
     let bit = c .before .bit in
     let excess = c .excess in
     omega (arith, excess-most (bit .result) (a .t) (p .1 .excess), excess .ensures, p .1 .lent)
-
-mul-lent : tie.Need-mul-lent
-mul-lent c = search needs
-
-bit-requires-2 : tie.Need-bit-requires-2
-bit-requires-2 c κs = search needs
-
-mul-s : tie.Need-mul-s
-mul-s c = search needs
-
-add-s : tie.Need-add-s
-add-s c = search needs
-
-netted-requires : tie.Need-netted-requires
-netted-requires c κs = search needs
-
-mul-s-2 : tie.Need-mul-s-2
-mul-s-2 c = search needs
-
-add-s-2 : tie.Need-add-s-2
-add-s-2 c = search needs
-
-chosen-requires : tie.Need-chosen-requires
-chosen-requires c κs = search needs
 
 add-s-3 : tie.Need-add-s-3
 add-s-3 c =
@@ -57,15 +27,6 @@ add-s-3 c =
       p .1 .lent,
       p .0 .principal,
     )
-
-chosen-requires-2 : tie.Need-chosen-requires-2
-chosen-requires-2 c κs = search needs
-
-bit-requires-3 : tie.Need-bit-requires-3
-bit-requires-3 c κs = search needs
-
-chosen-requires-3 : tie.Need-chosen-requires-3
-chosen-requires-3 c κs = search needs
 
 add-s-4 : tie.Need-add-s-4
 add-s-4 c =
@@ -111,21 +72,21 @@ pub with-set-spec : {M : Type 1} → statement M
 with-set-spec =
     tie.close
     (tie.spec
-    bit-requires
-    excess-requires
+    (search needs)
+    (search needs)
     mul-excess
-    mul-lent
-    bit-requires-2
-    mul-s
-    add-s
-    netted-requires
-    mul-s-2
-    add-s-2
-    chosen-requires
+    (search needs)
+    (search needs)
+    (search needs)
+    (search needs)
+    (search needs)
+    (search needs)
+    (search needs)
+    (search needs)
     add-s-3
-    chosen-requires-2
-    bit-requires-3
-    chosen-requires-3
+    (search needs)
+    (search needs)
+    (search needs)
     add-s-4
     add-s-5
     returns)

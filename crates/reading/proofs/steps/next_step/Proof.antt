@@ -16,7 +16,7 @@ returns-2 : tie.Need-returns-2
 returns-2 c = search needs
 
 item-step-requires : tie.Need-item-step-requires
-item-step-requires c κs = (c .before .before .before .before .pre .0, (not-false _ (c .before .if1 .left), (c .if2 .left, c .before .before .before .before .pre .1)))
+item-step-requires c κs = (c .before .before .before .before .pre .0, (not-false _ (c .before .if1 .left), c .if2 .left))
 
 returns-3 : tie.Need-returns-3
 returns-3 c = search needs

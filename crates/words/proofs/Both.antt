@@ -1,0 +1,20 @@
+-- One test of a word that is two others. Assumes nothing.
+use Prim.Native.Nat.{ℕ, _/_, _%_, _^_}
+use mathlib.Core.Path.{_≡_, refl, sym}
+use mathlib.Core.Bool.{Bool, true, false, not, _&&_, true≢false}
+use native.Mathlib.Omega.{arith}
+use borrow.Author.Tests.{eq-eqb, eqb-true, lt-leb, leb-false, lt-ltb, ltb-true, not-true}
+use lib.Dec.{eqb, leb, ltb}
+use Rattle.rules.specs.Word.{kindOf, faultyAmount}
+
+pub as-both : (t a b : Bool) → (t ≡ true → (a ≡ true) × (b ≡ true)) → (a ≡ true → b ≡ true → t ≡ true) → t ≡ (a && b)
+as-both true a b f g = let h = f refl in simp (h .0, h .1)
+as-both false true true f g = absurd (true≢false (sym (g refl refl)))
+as-both false true false f g = refl
+as-both false false b f g = refl
+
+pub plain-is : (w : ℕ) → ltb w (2 ^ 27) ≡ (eqb (kindOf w) 0 && not (faultyAmount w))
+plain-is w =
+    as-both (ltb w (2 ^ 27)) (eqb (kindOf w) 0) (not (faultyAmount w))
+    (λ e. let l = ltb-true w (2 ^ 27) e in (eq-eqb (w / 2 ^ 28) 0 (omega arith), simp (lt-leb (2 ^ 27) (w % 2 ^ 28) (omega arith))))
+    (λ a b. let k = eqb-true (w / 2 ^ 28) 0 a in let l = leb-false (2 ^ 27) (w % 2 ^ 28) (not-true _ b) in lt-ltb w (2 ^ 27) (omega arith))
