@@ -1,18 +1,19 @@
--- What a set puts into the sums: each piece by what the calls gave, and how large it is. Assumes nothing.
+-- What a set brings: each piece by what the calls gave, and how large it is. Assumes nothing.
 use Prim.Native.Nat.{ℕ, _+_, _-_, _*_, _≤_}
 use mathlib.Core.Path.{_≡_, refl, _∙_}
 use mathlib.Core.Bool.{Bool, true, false, cond}
 use native.Mathlib.Omega.{arith}
-use Rattle.rules.specs.declared.Sums.{Sums}
 use Rattle.rules.specs.Word.{bitOf, sizeOf}
 use Rattle.rules.specs.Book.{DerivativeSet}
 use Rattle.rules.specs.Read.{derivativeSetAt}
 use Rattle.rules.specs.Weigh.{marginOffsets, replacementOf, weightedIn}
 use Rattle.rules.proofs.Weighted.{at-most, mono-x}
+use Rattle.theorems.proofs.ItemRows.{marked, replacement-at-most, weighted-at-most}
+use Rattle.records.specs.Sums.{SumsRoomy}
 use Rattle.derivatives.specs.declared.read.SetWords.{SetWords}
 use Rattle.derivatives.specs.declared.tally.Tally.{Tally}
 use Rattle.derivatives.specs.Words.{setOf}
-use Rattle.derivatives.specs.Gathered.{tallyBy, plusSet, replacedBy, weightedBy}
+use Rattle.derivatives.specs.Gathered.{tallyBy, replacedBy, weightedBy, setSums, TallyFits}
 
 -- ---- how large
 
@@ -54,26 +55,31 @@ module _ (d : SetWords) (t : Tally) where
   unfolding weightedIn weightedBy derivativeSetAt
   weighted-is n x r nq rq = rq ∙ simp nq
 
-  -- the sums as the code makes them
-  pub with-set-is : (s : Sums) (k x : Bool) (p q o e r g kept : ℕ) → k ≡ marginOffsets here → x ≡ bitOf 5 (d .head) → p ≡ sizeOf (d .paid) → q ≡ sizeOf (d .posted)
-      → o ≡ cond k (1000 * p) 0 → e ≡ cond x (1000 * r + kept) 0
-      → r ≡ replacementOf here (tallyBy t) → g ≡ weightedIn here (tallyBy t) (t .gross) → kept ≡ weightedIn here (tallyBy t) (t .gross - t .uncovered)
-      → _≡_ {A = Sums} (record {
-        assets = s .assets + 1000 * p;
-        deducted = s .deducted;
-        replacement = s .replacement + 1000 * r;
-        weighted = s .weighted + g;
-        posted = s .posted + 1000 * q;
-        offset = s .offset + o;
-        exempt = s .exempt + e;
-        written = s .written + 1000 * t .written;
-        covered = s .covered + (1000 * t .covered + (g - kept));
-        financed = s .financed;
-        netted = s .netted;
-        principal = s .principal;
-        agent = s .agent;
-        committed = s .committed;
-        unconverted = s .unconverted;
-      }) (plusSet s here t)
+-- ---- what a set brings can be added
+
+module _ (d : SetWords) {t : Tally} (f : TallyFits t) where
+  pub set-roomy : SumsRoomy (setSums (setOf d) t)
   unfolding derivativeSetAt
-  with-set-is s k x p q o e r g kept kq xq pq qq oq eq rq gq keptq = simp (oq, eq, kq, xq, pq, qq, rq, gq, keptq)
+  set-roomy =
+      let s = setOf d in
+      let weight = f .weight in
+      let replaced = replacement-at-most s (tallyBy t) in
+      let gross = weighted-at-most s (tallyBy t) (t .gross) in
+      let kept = weighted-at-most s (tallyBy t) (t .gross - t .uncovered) in
+      record {
+        assets = omega arith;
+        deducted = omega arith;
+        replacement = omega arith;
+        weighted = omega arith;
+        posted = omega arith;
+        offset = omega (arith, marked (marginOffsets s) (1000 * s .paid));
+        exempt = omega (arith, marked (s .exempt) (1000 * replacementOf s (tallyBy t) + weightedIn s (tallyBy t) (t .gross - t .uncovered)));
+        written = omega arith;
+        covered = omega arith;
+        financed = omega arith;
+        netted = omega arith;
+        principal = omega arith;
+        agent = omega arith;
+        committed = omega arith;
+        unconverted = omega arith;
+      }

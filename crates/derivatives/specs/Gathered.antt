@@ -1,4 +1,4 @@
--- What the reading gathers of a derivative set, as the code's tally has it, and what it puts into the sums of the book.
+-- What the reading gathers of a derivative set, as the code's tally has it, and what it brings to the sums of the book.
 -- Assumes nothing.
 use Prim.Native.Nat.{ℕ, _+_, _-_, _*_, _^_, _≤_}
 use mathlib.Core.Bool.{Bool, cond}
@@ -73,24 +73,24 @@ replacedBy netting gains off = cond netting (gains - off) gains
 unfoldable pub weightedBy : (netting : Bool) (gains losses x : ℕ) → ℕ
 weightedBy netting gains losses x = cond netting (weightedOf x gains (gains - losses)) x
 
--- the sums of the book with a set that has gathered this: rows 1 and 4 to 10
-abbrev pub plusSet : Sums → DerivativeSet → Tally → Sums
-plusSet s d t = record {
-  assets = s .assets + 1000 * d .paid;
-  deducted = s .deducted;
-  replacement = s .replacement + 1000 * replacementOf d (tallyBy t);
-  weighted = s .weighted + weightedIn d (tallyBy t) (t .gross);
-  posted = s .posted + 1000 * d .posted;
-  offset = s .offset + cond (marginOffsets d) (1000 * d .paid) 0;
-  exempt = s .exempt + cond (d .exempt) (1000 * replacementOf d (tallyBy t) + weightedIn d (tallyBy t) (t .gross - t .uncovered)) 0;
-  written = s .written + 1000 * t .written;
-  covered = s .covered + (1000 * t .covered + (weightedIn d (tallyBy t) (t .gross) - weightedIn d (tallyBy t) (t .gross - t .uncovered)));
-  financed = s .financed;
-  netted = s .netted;
-  principal = s .principal;
-  agent = s .agent;
-  committed = s .committed;
-  unconverted = s .unconverted;
+-- what a set brings that has gathered this: rows 1 and 4 to 10
+abbrev pub setSums : DerivativeSet → Tally → Sums
+setSums d t = record {
+  assets = 1000 * d .paid;
+  deducted = 0;
+  replacement = 1000 * replacementOf d (tallyBy t);
+  weighted = weightedIn d (tallyBy t) (t .gross);
+  posted = 1000 * d .posted;
+  offset = cond (marginOffsets d) (1000 * d .paid) 0;
+  exempt = cond (d .exempt) (1000 * replacementOf d (tallyBy t) + weightedIn d (tallyBy t) (t .gross - t .uncovered)) 0;
+  written = 1000 * t .written;
+  covered = 1000 * t .covered + (weightedIn d (tallyBy t) (t .gross) - weightedIn d (tallyBy t) (t .gross - t .uncovered));
+  financed = 0;
+  netted = 0;
+  principal = 0;
+  agent = 0;
+  committed = 0;
+  unconverted = 0;
 }
 
 -- so much as a set of a book can come to at most

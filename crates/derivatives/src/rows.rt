@@ -13,8 +13,7 @@ use words::parts::field;
 ghost use mathlib.Core.Path.{_≡_};
 ghost use Prim.Native.Nat.{_-_, _^_, _≤_, _<_};
 ghost use Rattle.rules.specs.Weigh.{marginOffsets};
-ghost use Rattle.records.specs.Sums.{SumsRoomy};
-ghost use Rattle.derivatives.specs.Gathered.{TallyFits, plusSet, replacedBy, weightedBy};
+ghost use Rattle.derivatives.specs.Gathered.{TallyFits, replacedBy, setSums, weightedBy};
 ghost use Rattle.derivatives.specs.Words.{setOf};
 
 // "bits 0 to 4 are all 1": cash margin counts as payment.
@@ -56,10 +55,10 @@ fn weighted_rest(netting: bool, gains: u64, losses: u64, x: u64, uncovered: u64,
     weighted_in(netting, gains, losses, x - uncovered)
 }
 
-// The sums with a set of these words that has gathered this tally.
-pub fn with_set(mut s: Sums, d: SetWords, t: Tally) -> Sums
-    requires { ⌜ SumsRoomy s × TallyFits t ⌝ }
-    ensures { λ r. ⌜ r ≡ plusSet s (setOf d) t ⌝ }
+// What a set of these words brings that has gathered this tally.
+pub fn set_sums(d: SetWords, t: Tally) -> Sums
+    requires { ⌜ TallyFits t ⌝ }
+    ensures { λ r. ⌜ r ≡ setSums (setOf d) t ⌝ }
 {
     let netting = bit(d.head, payloads::SET_NETTING);
     let counts = margin_counts(d);
@@ -68,13 +67,21 @@ pub fn with_set(mut s: Sums, d: SetWords, t: Tally) -> Sums
     let gross = weighted_in(netting, t.gains, t.losses, t.gross);
     let kept = weighted_rest(netting, t.gains, t.losses, t.gross, t.uncovered, gross);
     let cash_paid = 1000 * wide(size(d.paid));
-    s.assets = s.assets + cash_paid;
-    s.replacement = s.replacement + replaced;
-    s.weighted = s.weighted + gross;
-    s.posted = s.posted + 1000 * wide(size(d.posted));
-    s.offset = s.offset + chosen(counts, cash_paid, 0);
-    s.exempt = s.exempt + chosen(bit(d.head, payloads::SET_EXEMPT), replaced + kept, 0);
-    s.written = s.written + 1000 * t.written;
-    s.covered = s.covered + (1000 * t.covered + (gross - kept));
-    s
+    Sums {
+        assets: cash_paid,
+        deducted: 0,
+        replacement: replaced,
+        weighted: gross,
+        posted: 1000 * wide(size(d.posted)),
+        offset: chosen(counts, cash_paid, 0),
+        exempt: chosen(bit(d.head, payloads::SET_EXEMPT), replaced + kept, 0),
+        written: 1000 * t.written,
+        covered: 1000 * t.covered + (gross - kept),
+        financed: 0,
+        netted: 0,
+        principal: 0,
+        agent: 0,
+        committed: 0,
+        unconverted: 0,
+    }
 }

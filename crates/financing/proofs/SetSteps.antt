@@ -1,11 +1,9 @@
--- A financing set by its tally: what it puts into the sums, that this fits, and what each way out of the set's function returns.
+-- A financing set by its tally: what it brings, that this fits, and what each way out of the set's function returns.
 -- Assumes nothing.
 use Prim.Native.Nat.{ℕ, zero, suc, _-_, _^_, _≤_}
 use mathlib.Core.Path.{_≡_, refl, sym, _∙_, ap}
-use mathlib.Core.Bool.{Bool, true, false}
 use mathlib.Core.List.{List}
 use native.Mathlib.Omega.{arith}
-use native.Mathlib.Nat.{add-zero}
 use lib.ListN.{length}
 use Rattle.rules.specs.declared.Bands.{Bands}
 use Rattle.rules.specs.declared.Sums.{Sums}
@@ -18,7 +16,7 @@ use Rattle.rules.specs.Weigh.{excessOf}
 use Rattle.rules.proofs.Lists.{total-le-all}
 use Rattle.rules.proofs.Runs.{fine-run}
 use Rattle.records.specs.Readable.{Readable}
-use Rattle.records.specs.Step.{plusItem, itemStep}
+use Rattle.records.specs.Sums.{itemSums}
 use Rattle.records.specs.declared.ItemStep.{ItemStep}
 use Rattle.records.specs.declared.ItemStep.the-variants.{Next}
 use Rattle.records.specs.declared.ItemStep.the-variants as item
@@ -29,22 +27,18 @@ use Rattle.financing.specs.declared.tally.FinancingTally.{FinancingTally
 use Rattle.financing.specs.declared.trades.Weighed.{Weighed}
 use Rattle.financing.specs.declared.trades.Weighed.the-variants.{Whole, Refused}
 use Rattle.financing.specs.Netting.{NeverFall}
-use Rattle.financing.specs.Weighing.{noTally, tallyFrom, excessIn, weighedTo, weighedOf, tradesOf, plusSet, TallyFits}
+use Rattle.records.specs.Step.{itemStep}
+use Rattle.financing.specs.Weighing.{noTally, tallyFrom, weighedTo, weighedOf, tradesOf, setSums, TallyFits}
 use Rattle.financing.proofs.Order.{never-fall}
 use Rattle.financing.proofs.Tallies.{tally-assets, tally-lent, tally-received, tally-excess, tally-netted}
-
-pub excess-most : (netting : Bool) (t : FinancingTally) → t .excess ≤ t .lent → excessIn netting t ≤ t .lent
-excess-most true t h = omega arith
-excess-most false t h = h
 
 -- ---- a tally from nothing on
 
 module _ (ts : List FinancingTrade) where
-  -- the sums with the set, by its tally
-  plus-is : (bands : Bands) (s : Sums) (ws : List ℕ) → NeverFall 0 ts
-      → plusSet s (tallyFrom noTally ts) (word ws 0) ≡ plusItem bands s (financing (financingSetAt ws ts))
-  unfolding plusSet financingSetAt excessOf
-  plus-is bands s ws h = simp (add-zero, tally-assets, tally-lent, tally-received, tally-excess, tally-netted ts h)
+  -- what the set brings, by its tally
+  sums-are : (bands : Bands) (ws : List ℕ) → NeverFall 0 ts → setSums (tallyFrom noTally ts) (word ws 0) ≡ itemSums bands (financing (financingSetAt ws ts))
+  unfolding setSums financingSetAt excessOf
+  sums-are bands ws h = simp (tally-assets, tally-lent, tally-received, tally-excess, tally-netted ts h)
 
   light : NeverFall 0 ts → total financingWeight ts ≤ 2 ^ 61 → TallyFits (tallyFrom noTally ts)
   light h l = record {
@@ -67,9 +61,9 @@ module _ (ts : List FinancingTrade) where
 -- ---- the set
 
 -- what is returned, by what the trades come to
-abbrev stepOf : Sums → (w : ℕ) → Weighed → ItemStep
-stepOf s w (Whole t next) = Next (plusSet s t w) next
-stepOf s w (Refused number place) = item.Refused number place
+abbrev stepOf : (w : ℕ) → Weighed → ItemStep
+stepOf w (Whole t next) = Next (setSums t w) next
+stepOf w (Refused number place) = item.Refused number place
 
 abbrev FitsIn : Weighed → Type 0
 FitsIn (Whole t next) = TallyFits t
@@ -90,29 +84,29 @@ module _ (ws : List ℕ) (k : kindOf (word ws 0) ≡ 8) where
         go zero q h = h
         go (suc n) q h = tt
 
-    module _ (bands : Bands) (s : Sums) (f : ℕ) (fq : f ≡ financingSetFault (word ws 0)) where
+    module _ (bands : Bands) (f : ℕ) (fq : f ≡ financingSetFault (word ws 0)) where
       behind : ℕ → Turn Item
       behind next = withTrades ws (runFrom (financingMemberTurn ws) (suc (length ws)) next)
 
       module _ (z : f ≡ 0) where
-        step-is : stepOf s (word ws 0) r ≡ itemStep bands s (financingSetTurn ws)
+        step-is : stepOf (word ws 0) r ≡ itemStep bands (financingSetTurn ws)
         unfolding financingSetTurn lacks behind
         step-is =
-            ap (stepOf s (word ws 0)) rq ∙ go (tradesOf ws .number)
-            ∙ sym (ap (itemStep bands s) (turn-on ws 0 8 k (financingSetFault (word ws 0)) behind refl (sym fq ∙ z)))
+            ap (stepOf (word ws 0)) rq ∙ go (tradesOf ws .number)
+            ∙ sym (ap (itemStep bands) (turn-on ws 0 8 k (financingSetFault (word ws 0)) behind refl (sym fq ∙ z)))
           where
-            go : (n : ℕ) → stepOf s (word ws 0) (weighedTo (tallyFrom noTally (tradesOf ws .records)) n (tradesOf ws .place))
-                ≡ itemStep bands s (some (financing (financingSetAt ws (tradesOf ws .records))) n (tradesOf ws .place))
-            go zero = ap (λ (x : Sums). Next x (tradesOf ws .place)) (plus-is (tradesOf ws .records) bands s ws fall)
+            go : (n : ℕ) → stepOf (word ws 0) (weighedTo (tallyFrom noTally (tradesOf ws .records)) n (tradesOf ws .place))
+                ≡ itemStep bands (some (financing (financingSetAt ws (tradesOf ws .records))) n (tradesOf ws .place))
+            go zero = ap (λ (x : Sums). Next x (tradesOf ws .place)) (sums-are (tradesOf ws .records) bands ws fall)
             go (suc n) = refl
 
-        pub set-refused : (number place : ℕ) → r ≡ Refused number place → item.Refused number place ≡ itemStep bands s (financingSetTurn ws)
-        set-refused number place e = ap (stepOf s (word ws 0)) (sym e) ∙ step-is
+        pub set-refused : (number place : ℕ) → r ≡ Refused number place → item.Refused number place ≡ itemStep bands (financingSetTurn ws)
+        set-refused number place e = ap (stepOf (word ws 0)) (sym e) ∙ step-is
 
-        pub set-whole : (t : FinancingTally) (next : ℕ) → r ≡ Whole t next → (u : Sums) → u ≡ plusSet s t (word ws 0) → Next u next ≡ itemStep bands s (financingSetTurn ws)
-        set-whole t next e u uq = ap (λ (x : Sums). Next x next) uq ∙ ap (stepOf s (word ws 0)) (sym e) ∙ step-is
+        pub set-whole : (t : FinancingTally) (next : ℕ) → r ≡ Whole t next → (u : Sums) → u ≡ setSums t (word ws 0) → Next u next ≡ itemStep bands (financingSetTurn ws)
+        set-whole t next e u uq = ap (λ (x : Sums). Next x next) uq ∙ ap (stepOf (word ws 0)) (sym e) ∙ step-is
 
-  pub set-faulty : (bands : Bands) (s : Sums) (f : ℕ) → f ≡ financingSetFault (word ws 0) → (f ≡ 0 → ⊥) → item.Refused f 0 ≡ itemStep bands s (financingSetTurn ws)
+  pub set-faulty : (bands : Bands) (f : ℕ) → f ≡ financingSetFault (word ws 0) → (f ≡ 0 → ⊥) → item.Refused f 0 ≡ itemStep bands (financingSetTurn ws)
   unfolding financingSetTurn lacks
-  set-faulty bands s f fq n =
-      ap (λ (x : ℕ). item.Refused x 0) fq ∙ sym (ap (itemStep bands s) (turn-fault ws 0 8 k (financingSetFault (word ws 0)) _ refl (λ z. n (fq ∙ z))))
+  set-faulty bands f fq n =
+      ap (λ (x : ℕ). item.Refused x 0) fq ∙ sym (ap (itemStep bands) (turn-fault ws 0 8 k (financingSetFault (word ws 0)) _ refl (λ z. n (fq ∙ z))))

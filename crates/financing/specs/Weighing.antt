@@ -1,15 +1,20 @@
--- The weighing of a financing set: a tally that each trade is added to, and what the set puts into the sums by its tally.
+-- The weighing of a financing set: a tally that each trade is added to, and what the set brings by its tally.
 -- Assumes nothing.
 use Prim.Native.Nat.{ℕ, zero, suc, _+_, _-_, _*_, _^_, _≤_, min}
 use mathlib.Core.Bool.{Bool, cond}
 use mathlib.Core.List.{List, [], _∷_}
 use lib.Dec.{eqb}
 use lib.ListN.{length}
+use Rattle.rules.specs.declared.Bands.{Bands}
 use Rattle.rules.specs.declared.Sums.{Sums}
 use Rattle.rules.specs.Word.{bitOf}
-use Rattle.rules.specs.Book.{FinancingTrade}
-use Rattle.rules.specs.Run.{Run, runFrom}
+use Rattle.rules.specs.Book.{FinancingTrade, Item}
+use Rattle.rules.specs.Run.{Turn, over, bad, some, Run, runFrom}
 use Rattle.rules.specs.Read.{financingMemberTurn}
+use Rattle.records.specs.declared.ItemStep.{ItemStep}
+use Rattle.records.specs.declared.ItemStep.the-variants.{Next}
+use Rattle.records.specs.declared.ItemStep.the-variants as item
+use Rattle.records.specs.Sums.{itemSums}
 use Rattle.financing.specs.declared.tally.FinancingTally.{FinancingTally}
 use Rattle.financing.specs.declared.trades.Weighed.{Weighed}
 use Rattle.financing.specs.declared.trades.Weighed.the-variants.{Whole, Refused}
@@ -73,25 +78,25 @@ weighedOf t r = weighedTo (tallyFrom t (r .records)) (r .number) (r .place)
 abbrev pub tradesOf : List ℕ → Run FinancingTrade
 tradesOf ws = runFrom (financingMemberTurn ws) (suc (length ws)) 1
 
--- ---- the sums with one set more, by its tally and its head word
+-- ---- what a set brings, by its tally and its head word
 
-unfoldable pub plusSet : Sums → FinancingTally → (w : ℕ) → Sums
-plusSet s t w = record {
-  assets = s .assets;
-  deducted = s .deducted;
-  replacement = s .replacement;
-  weighted = s .weighted;
-  posted = s .posted;
-  offset = s .offset;
-  exempt = s .exempt;
-  written = s .written;
-  covered = s .covered;
-  financed = s .financed + 1000 * t .assets;
-  netted = s .netted + 1000 * nettedIn t;
-  principal = s .principal + cond (bitOf 1 w) 0 (1000 * excessIn (bitOf 0 w) t);
-  agent = s .agent + (cond (bitOf 1 w) (1000 * excessIn (bitOf 0 w) t) 0 + cond (bitOf 2 w) (1000 * t .lent) 0);
-  committed = s .committed;
-  unconverted = s .unconverted;
+unfoldable pub setSums : FinancingTally → (w : ℕ) → Sums
+setSums t w = record {
+  assets = 0;
+  deducted = 0;
+  replacement = 0;
+  weighted = 0;
+  posted = 0;
+  offset = 0;
+  exempt = 0;
+  written = 0;
+  covered = 0;
+  financed = 1000 * t .assets;
+  netted = 1000 * nettedIn t;
+  principal = cond (bitOf 1 w) 0 (1000 * excessIn (bitOf 0 w) t);
+  agent = cond (bitOf 1 w) (1000 * excessIn (bitOf 0 w) t) 0 + cond (bitOf 2 w) (1000 * t .lent) 0;
+  committed = 0;
+  unconverted = 0;
 }
 
 -- ---- what fits 64 bits

@@ -1,5 +1,6 @@
 // The tally of a financing set: its sums so far, and the cash of the day that is not closed yet.
 use crate::read::FinancingTradeWords;
+use records::sums::no_sums;
 use rules::Sums;
 use rules::payloads;
 use words::amount::size;
@@ -11,8 +12,7 @@ use words::numbers::wide;
 use words::parts::bit;
 ghost use mathlib.Core.Path.{_≡_};
 ghost use Prim.Native.Nat.{_+_, _^_, _≤_};
-ghost use Rattle.records.specs.Sums.{SumsRoomy};
-ghost use Rattle.financing.specs.Weighing.{TallyFits, TallyRoomy, excessIn, nettedIn, noTally, plusSet, settled, tallied};
+ghost use Rattle.financing.specs.Weighing.{TallyFits, TallyRoomy, excessIn, nettedIn, noTally, setSums, settled, tallied};
 ghost use Rattle.financing.specs.Words.{financingTradeOf};
 
 // Gross assets less securities, value lent and value received, what was lent beyond what was received trade by trade; cash netted of
@@ -84,25 +84,25 @@ impl FinancingTally {
 
     // E*: "lent minus received, not below 0, over the set if netting is marked, else summed trade by trade"
     pub fn excess(self, netting: bool) -> u64
-        ensures { λ r. ⌜ r ≡ excessIn netting self ⌝ }
+        ensures { λ r. ⌜ (r ≡ excessIn netting self) × (r ≤ self .lent + self .excess) ⌝ }
     {
         chosen(netting, less(self.lent, self.received), self.excess)
     }
 }
 
-// The sums with a set more: "12: asset − securities. 13: −cash netted. 14: E* of principal sets. 15: E* of agent sets, plus all value
-// lent with bit 2."
-pub fn with_set(mut s: Sums, t: FinancingTally, w: u32) -> Sums
-    requires { ⌜ SumsRoomy s × TallyFits t ⌝ }
-    ensures { λ r. ⌜ r ≡ plusSet s t w ⌝ }
+// What a set brings by its tally and its head word: "12: asset − securities. 13: −cash netted. 14: E* of principal sets. 15: E* of agent
+// sets, plus all value lent with bit 2."
+pub fn set_sums(t: FinancingTally, w: u32) -> Sums
+    requires { ⌜ TallyFits t ⌝ }
+    ensures { λ r. ⌜ r ≡ setSums t w ⌝ }
 {
     let excess = 1000 * t.excess(bit(w, payloads::FINANCING_NETTING));
     let lent = 1000 * t.lent;
     let agent = bit(w, payloads::FINANCING_AGENT);
-    s.financed = s.financed + 1000 * t.assets;
-    s.netted = s.netted + 1000 * t.netted();
-    s.principal = s.principal + chosen(agent, 0, excess);
-    s.agent = s.agent
-        + (chosen(agent, excess, 0) + chosen(bit(w, payloads::FINANCING_FURTHER), lent, 0));
+    let mut s = no_sums();
+    s.financed = 1000 * t.assets;
+    s.netted = 1000 * t.netted();
+    s.principal = chosen(agent, 0, excess);
+    s.agent = chosen(agent, excess, 0) + chosen(bit(w, payloads::FINANCING_FURTHER), lent, 0);
     s
 }

@@ -23,7 +23,8 @@ use Rattle.records.specs.declared.ItemStep.{ItemStep}
 use Rattle.records.specs.declared.ItemStep.the-variants.{Next}
 use Rattle.records.specs.declared.ItemStep.the-variants as item
 use Rattle.records.specs.Readable.{Readable}
-use Rattle.records.specs.Step.{plusItem, itemStep}
+use Rattle.records.specs.Sums.{plus, itemSums}
+use Rattle.records.specs.Step.{itemStep}
 use Rattle.reading.specs.declared.Admission.the-variants.{Refused}
 use Rattle.reading.specs.Steps.{SumsUpTo}
 use Rattle.reading.specs.Ahead.{endsAt, fromItem}
@@ -116,28 +117,28 @@ plain-financing ws = plain-record ws 0 _ _ (λ n. somes (λ b. refl))
 
 -- what a call answered that reads one: the item is in the sums, or it is faulty
 module _ (bands : Bands) {ws : List ℕ} {s : Sums} {at k : ℕ} (m : Met ws s at k) (ke : k ≡ 15 → ⊥) (turn : List ℕ → Turn Item) (plain : Plain (turn (drop at ws))) (is : itemOf (drop at ws) ≡ turn (drop at ws))
-    (r : ItemStep) (q : r ≡ itemStep bands s (turn (partAt ws at))) where
+    (r : ItemStep) (q : r ≡ itemStep bands (turn (partAt ws at))) where
   here : itemTurn ws at ≡ placed at (turn (drop at ws))
   here = turn-here m ke ∙ ap (placed at) is
 
-  step : r ≡ itemStep bands s (turn (drop at ws))
-  step = q ∙ ap (λ (p : List ℕ). itemStep bands s (turn p)) (from-is ws at)
+  step : r ≡ itemStep bands (turn (drop at ws))
+  step = q ∙ ap (λ (p : List ℕ). itemStep bands (turn p)) (from-is ws at)
 
   fine : FineTurn (length ws) perWord (placedWeight bands) at (placed at (turn (drop at ws)))
   fine = rw here at (fine-item-turn bands ws at (m .sums-up-to .readable .within))
 
-  next-of : (t : Turn Item) → Plain t → itemTurn ws at ≡ placed at t → (sums : Sums) (next : ℕ) → itemStep bands s t ≡ Next sums next → Onward bands ws s at sums (at + next)
+  next-of : (t : Turn Item) → Plain t → itemTurn ws at ≡ placed at t → (sums : Sums) (next : ℕ) → itemStep bands t ≡ Next sums next → Onward bands ws s at (plus s sums) (at + next)
   next-of t bads h sums next e = let z : _≡_ {A = ℕ} 0 1 = cc in absurd (omega arith)
   next-of t (somes {i} {number = zero} {place} d) h sums next e =
-      let a : plusItem bands s i ≡ sums = cc in
+      let a : itemSums bands i ≡ sums = cc in
       let b : place ≡ next = cc in
       rw (← a, ← b) (onward bands ws s at (m .sums-up-to) _ (at + place) h (d at))
   next-of t (somes {number = suc n} d) h sums next e = let z : _≡_ {A = ℕ} 0 1 = cc in absurd (omega arith)
 
-  pub item-next : (sums : Sums) (next : ℕ) → r ≡ Next sums next → Onward bands ws s at sums (at + next)
+  pub item-next : (sums : Sums) (next : ℕ) → r ≡ Next sums next → Onward bands ws s at (plus s sums) (at + next)
   item-next sums next e = next-of (turn (drop at ws)) plain here sums next (sym step ∙ e)
 
-  refused-of : (t : Turn Item) → Plain t → itemTurn ws at ≡ placed at t → FineTurn (length ws) perWord (placedWeight bands) at (placed at t) → (number place : ℕ) → itemStep bands s t ≡ item.Refused number place
+  refused-of : (t : Turn Item) → Plain t → itemTurn ws at ≡ placed at t → FineTurn (length ws) perWord (placedWeight bands) at (placed at t) → (number place : ℕ) → itemStep bands t ≡ item.Refused number place
       → (at + place ≤ length ws) × (fromItem bands ws s at ≡ endsAt (Refused number (at + place)))
   refused-of t (bads {number = n} {place = p}) h f number place e =
       let a : suc n ≡ number = cc in

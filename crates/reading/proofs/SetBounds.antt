@@ -7,10 +7,11 @@ use Rattle.rules.specs.declared.Sums.{Sums}
 use Rattle.rules.specs.Read.{derivativeSetAt}
 use Rattle.rules.specs.Weigh.{marginOffsets, replacementOf, weightedIn}
 use Rattle.theorems.proofs.ItemRows.{marked, replacement-at-most, weighted-at-most}
+use Rattle.records.specs.Sums.{plus}
 use Rattle.derivatives.specs.declared.read.SetWords.{SetWords}
 use Rattle.derivatives.specs.declared.tally.Tally.{Tally}
 use Rattle.derivatives.specs.Words.{setOf}
-use Rattle.derivatives.specs.Gathered.{TallyFits, plusSet, tallyBy}
+use Rattle.derivatives.specs.Gathered.{TallyFits, setSums, tallyBy}
 use Rattle.derivatives.specs.Ahead.{TallyUpTo}
 use Rattle.reading.specs.Steps.{allSums, SumsUpTo}
 
@@ -20,7 +21,7 @@ tally-fits l h = record { weight = omega (arith, l .weight); losses = omega (ari
 
 -- the head of the set makes up for its margin and collateral
 pub sums-with-set : {ws : List ℕ} {s : Sums} {at : ℕ} → SumsUpTo ws s at → (x : SetWords) (t : Tally) (place : ℕ) → TallyUpTo t place → at + place ≤ length ws
-    → SumsUpTo ws (plusSet s (setOf x) t) (at + place)
+    → SumsUpTo ws (plus s (setSums (setOf x) t)) (at + place)
 unfolding allSums derivativeSetAt
 sums-with-set {s = s} f x t place l h =
     let d = setOf x in

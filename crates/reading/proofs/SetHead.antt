@@ -11,6 +11,7 @@ use Rattle.rules.specs.Run.{Run, runFrom}
 use Rattle.rules.specs.Read.{memberTurn, derivativeSetAt, withMembers, derivativeSetTurn, placed, itemTurn}
 use Rattle.rules.specs.Register.{drawsOf}
 use Rattle.theorems.proofs.Records.{lacks-room}
+use Rattle.records.specs.Sums.{plus}
 use Rattle.records.proofs.Words.{record-good}
 use Rattle.derivatives.specs.Words.{setCause}
 use Rattle.derivatives.specs.Gathered.{noTally}
@@ -31,7 +32,7 @@ module _ (bands : Bands) (ws : List ℕ) (s : Sums) (at : ℕ) (w : at ≤ lengt
   unfolding derivativeSetAt
   members-then records zero place e =
       ahead-some bands ws s at w _ (at + place) e
-      ∙ ap (λ (t : Sums). after (drawsOf at records) (fromItem bands ws t (at + place))) (item-is bands s part records)
+      ∙ ap (λ (more : Sums). after (drawsOf at records) (fromItem bands ws (plus s more) (at + place))) (item-is bands part records)
   members-then records (suc number) place e = ahead-broken bands ws s at w _ number (at + place) e
 
 pub set-opens : (bands : Bands) {ws : List ℕ} {s : Sums} {at : ℕ} → Met ws s at 4 → setCause (drop at ws) ≡ 0

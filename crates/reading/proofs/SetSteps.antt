@@ -10,7 +10,7 @@ use Rattle.rules.specs.declared.Draw.{Draw}
 use Rattle.rules.specs.declared.Sums.{Sums}
 use Rattle.rules.specs.Read.{headOf}
 use Rattle.records.specs.Readable.{Readable}
-use Rattle.records.specs.Sums.{SumsRoomy}
+use Rattle.records.specs.Sums.{plus, SumsRoomy}
 use Rattle.derivatives.specs.declared.read.SetWords.{SetWords}
 use Rattle.derivatives.specs.declared.tally.Tally.{Tally}
 use Rattle.derivatives.specs.declared.set.OpenSet.{OpenSet}
@@ -18,7 +18,8 @@ use Rattle.derivatives.specs.declared.set.Weighed.{Weighed}
 use Rattle.derivatives.specs.declared.set.Weighed.the-variants.{Whole}
 use Rattle.derivatives.specs.declared.set.Weighed.the-variants as set
 use Rattle.derivatives.specs.Words.{setWords, setOf}
-use Rattle.derivatives.specs.Gathered.{TallyFits, plusSet}
+use Rattle.derivatives.specs.Gathered.{TallyFits, setSums}
+use Rattle.derivatives.proofs.SetRows.{set-roomy}
 use Rattle.derivatives.specs.Ahead.{setAhead, TallyUpTo, SoundSet, weighedAhead, SoundWeighed}
 use Rattle.reading.specs.declared.Admission.the-variants.{Refused}
 use Rattle.reading.specs.declared.cursor.Cursor.{Cursor}
@@ -71,14 +72,18 @@ module _ {ws : List ℕ} {c : Cursor} (so : Sound ws c) (b : c .begun ≡ true) 
       short = omega (arith, length-drop (c .at) ws, so .readable .short);
     })
 
-    pub set-roomy : SumsRoomy (c .sums) × TallyFits t
-    set-roomy = (sums-roomy (so .sums-up-to b), tally-fits (tally-there .0) (omega (arith, behind-there .1, so .readable .short)))
+    pub tally-small : TallyFits t
+    tally-small = tally-fits (tally-there .0) (omega (arith, behind-there .1, so .readable .short))
 
-    pub step-whole : {x : SetWords} → x ≡ setWords (partAt ws (c .at)) → {s : Sums} → s ≡ plusSet (c .sums) (setOf x) t → (o : OpenSet) → Right ws c (On (itemCursor (c .at + place) s o))
+    pub plus-roomy : (x : SetWords) {more : Sums} → more ≡ setSums (setOf x) t → SumsRoomy (c .sums) × SumsRoomy more
+    plus-roomy x q = (sums-roomy (so .sums-up-to b), rw q (set-roomy x tally-small))
+
+    pub step-whole : {x : SetWords} → x ≡ setWords (partAt ws (c .at)) → {more : Sums} → more ≡ setSums (setOf x) t → {s : Sums} → s ≡ plus (c .sums) more → (o : OpenSet) → Right ws c (On (itemCursor (c .at + place) s o))
     unfolding ahead
-    step-whole {x} xq {s} sq o =
+    step-whole {x} xq {more} mq {s} sq o =
         let d = setWords (drop (c .at) ws) in
-        let made : s ≡ plusSet (c .sums) (setOf d) t = sq ∙ ap (λ (y : SetWords). plusSet (c .sums) (setOf y) t) (xq ∙ ap setWords (from-is ws (c .at))) in
+        let brought : more ≡ setSums (setOf d) t = mq ∙ ap (λ (y : SetWords). setSums (setOf y) t) (xq ∙ ap setWords (from-is ws (c .at))) in
+        let made : s ≡ plus (c .sums) (setSums (setOf d) t) = sq ∙ ap (plus (c .sums)) brought in
         rw made (
           rw e at told,
           (

@@ -18,7 +18,7 @@ use Rattle.records.specs.Readable.{Readable}
 use Rattle.records.specs.Sums.{noSums, plus}
 use Rattle.derivatives.specs.declared.set.OpenSet.{OpenSet}
 use Rattle.derivatives.specs.Words.{setWords, setOf}
-use Rattle.derivatives.specs.Gathered.{plusSet}
+use Rattle.derivatives.specs.Gathered.{setSums}
 use Rattle.derivatives.specs.Ahead.{Ending, gathered, refused, SetAhead, setAhead, newSet, SoundSet}
 use Rattle.reading.specs.declared.Admission.{Admission}
 use Rattle.reading.specs.declared.Admission.the-variants.{Admitted, Refused}
@@ -59,7 +59,7 @@ fromItem bands ws s at = itemsAhead bands s (runFrom (itemTurn ws) (suc (length 
 -- from inside a derivative set that begins at a place: what lies ahead in the set, then the items
 abbrev pub setThen : Bands → List ℕ → Sums → (begin : ℕ) → Ending → Ahead
 setThen bands ws s begin (gathered t place) =
-    fromItem bands ws (plusSet s (setOf (setWords (drop begin ws))) t) (begin + place)
+    fromItem bands ws (plus s (setSums (setOf (setWords (drop begin ws))) t)) (begin + place)
 setThen bands ws s begin (refused number place) = endsAt (Refused number (begin + place))
 
 abbrev pub setBehind : Bands → List ℕ → Sums → (begin : ℕ) → SetAhead → Ahead

@@ -4,6 +4,7 @@ use crate::runs::off_balance_items;
 use derivatives::set_cause;
 use financing::financing_set;
 use records::ItemStep;
+use records::sums::plus;
 use rules::Sums;
 use rules::causes;
 use rules::kinds;
@@ -76,8 +77,8 @@ fn financing_at(book: &[u32], at: usize, s: Sums) -> ItemAnswer
     requires { ⌜ SumsUpTo (now book) s at × (stands 8 (now book) at ≡ true) ⌝ }
     ensures { λ r. ⌜ AnswersItem (now (book .entry)) s at r ⌝ }
 {
-    match financing_set(&book[at..], s) {
-        ItemStep::Next(sums, next) => ItemAnswer::More(sums, at + next),
+    match financing_set(&book[at..]) {
+        ItemStep::Next(more, next) => ItemAnswer::More(plus(s, more), at + next),
         ItemStep::Refused { number, place } => ItemAnswer::Refused {
             number,
             place: at + place,

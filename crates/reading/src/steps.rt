@@ -6,11 +6,12 @@ use crate::items::item_at;
 use crate::protections::Protections;
 use crate::protections::read_protections;
 use derivatives::read::set_words;
-use derivatives::rows::with_set;
+use derivatives::rows::set_sums;
 use derivatives::set::OpenSet;
 use derivatives::set::Weighed;
 use derivatives::set::weigh;
 use records::sums::no_sums;
+use records::sums::plus;
 use rules::Bands;
 use rules::Draw;
 use words::parts::payload;
@@ -81,7 +82,7 @@ fn set_step(book: &[u32], c: Cursor, bands: Bands) -> Step
             begun: true,
             inside: false,
             at: at + place,
-            sums: with_set(sums, set_words(part), t),
+            sums: plus(sums, set_sums(set_words(part), t)),
             set: OpenSet::new(),
         }),
         Weighed::Refused { number, place } => Step::Ended(Admission::Refused {

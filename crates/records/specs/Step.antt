@@ -27,11 +27,11 @@ abbrev pub plusItem : Bands → Sums → Item → Sums
 plusItem bands s i = plus s (itemSums bands i)
 
 -- an item's turn is never over
-abbrev pub itemStep : Bands → Sums → Turn Item → ItemStep
-itemStep bands s over = Refused 0 0
-itemStep bands s (bad number place) = Refused number place
-itemStep bands s (some i zero next) = Next (plusItem bands s i) next
-itemStep bands s (some i (suc number) place) = Refused (suc number) place
+abbrev pub itemStep : Bands → Turn Item → ItemStep
+itemStep bands over = Refused 0 0
+itemStep bands (bad number place) = Refused number place
+itemStep bands (some i zero next) = Next (itemSums bands i) next
+itemStep bands (some i (suc number) place) = Refused (suc number) place
 
 -- an amount, and not negative
 abbrev pub plainAmount : ℕ → Bool

@@ -6,8 +6,8 @@ pub mod commitments;
 pub mod presence;
 pub mod sums;
 
-// What stands at an item's head: the sums with the item in them and the place behind it, or the number and the place of the first
-// fault. Places count from the item's head.
+// What stands at an item's head: what the item brings to the sums and the place behind it, or the number and the place of the first fault.
+// Places count from the item's head.
 pub enum ItemStep {
     Next(Sums, usize),
     Refused { number: u32, place: usize },

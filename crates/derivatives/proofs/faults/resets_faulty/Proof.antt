@@ -1,7 +1,6 @@
 use native.Mathlib.Omega.{arith}
 use borrow.Author.Tests.{lt-ltb, le-ltb}
-use Rattle.words.proofs.Marks.{times-mark-le}
-use Rattle.derivatives.proofs.Truth.{gap-beyond}
+use Rattle.derivatives.proofs.Truth.{mark-fits, gap-beyond}
 use borrow.Author.Needs.{needs}
 use Rattle.derivatives.proofs.faults.resets_faulty.Statement.{statement}
 use Rattle.derivatives.proofs.faults.resets_faulty.Tie as tie
@@ -10,7 +9,7 @@ returns : tie.Need-returns
 returns c = simp (← (c .before .before .size .ensures), ← (c .before .size2 .ensures), lt-ltb _ _ (c .if1 .taken))
 
 mul-result : tie.Need-mul-result
-mul-result c = omega (arith, times-mark-le (c .before .bit .result) (c .one-if .result) 0x08000000 (c .one-if .ensures))
+mul-result c = omega (arith, mark-fits (c .before .bit .result) (c .one-if .result) (c .one-if .ensures))
 
 returns-2 : tie.Need-returns-2
 returns-2 c = simp (← (c .before .before .before .before .size .ensures), ← (c .before .before .before .size2 .ensures), le-ltb _ _ (c .before .before .if1 .left), ← (c .before .bit .ensures))

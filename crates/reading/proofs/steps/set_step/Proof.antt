@@ -1,5 +1,5 @@
 use native.Mathlib.Omega.{arith}
-use Rattle.reading.proofs.SetSteps.{sound-part, step-cover, set-ends, set-readable, set-roomy, step-whole, fault-there, step-refused}
+use Rattle.reading.proofs.SetSteps.{sound-part, step-cover, set-ends, set-readable, tally-small, plus-roomy, step-whole, fault-there, step-refused}
 use borrow.Author.Needs.{needs}
 use Rattle.reading.proofs.steps.set_step.Statement.{statement}
 use Rattle.reading.proofs.steps.set_step.Tie as tie
@@ -28,14 +28,20 @@ set-words-requires c κs =
     let g = (c .before .t .given) in
     set-readable (e .pre .0) (e .pre .1 .0) (e .pre .1 .1 .0) (e .pre .1 .1 .1) (c .before .before .before .weigh .result) (c .before .before .before .weigh .ensures) (g .0 .0) (g .0 .1 .0) (g .1)
 
-with-set-requires : tie.Need-with-set-requires
-with-set-requires c κs =
+set-sums-requires : tie.Need-set-sums-requires
+set-sums-requires c κs =
     let e = c .before .before .before .before .before .before .before .before .before in
     let g = (c .before .before .t .given) in
-    set-roomy (e .pre .0) (e .pre .1 .0) (e .pre .1 .1 .0) (e .pre .1 .1 .1) (c .before .before .before .before .weigh .result) (c .before .before .before .before .weigh .ensures) (g .0 .0) (g .0 .1 .0) (g .1)
+    tally-small (e .pre .0) (e .pre .1 .0) (e .pre .1 .1 .0) (e .pre .1 .1 .1) (c .before .before .before .before .weigh .result) (c .before .before .before .before .weigh .ensures) (g .0 .0) (g .0 .1 .0) (g .1)
 
-add-t26 : tie.Need-add-t26
-add-t26 c =
+plus-requires : tie.Need-plus-requires
+plus-requires c κs =
+    let e = c .before .before .before .before .before .before .before .before .before .before in
+    let g = (c .before .before .before .t .given) in
+    plus-roomy (e .pre .0) (e .pre .1 .0) (e .pre .1 .1 .0) (e .pre .1 .1 .1) (c .before .before .before .before .before .weigh .result) (c .before .before .before .before .before .weigh .ensures) (g .0 .0) (g .0 .1 .0) (g .1) (c .before .set-words .result) (c .set-sums .ensures)
+
+add-t27 : tie.Need-add-t27
+add-t27 c =
     let e = c .before .before .before .before .before .before .before .before in
     let g = (c .before .number .given) in
     omega (arith, fault-there (e .pre .0) (e .pre .1 .0) (e .pre .1 .1 .0) (e .pre .1 .1 .1) (c .before .before .before .weigh .result) (c .before .before .before .weigh .ensures) (g .0 .0) (g .0 .1 .0) (g .1))
@@ -48,9 +54,9 @@ returns c =
 
 returns-2 : tie.Need-returns-2
 returns-2 c =
-    let e = c .before .before .before .before .before .before .before .before .before .before .before in
-    let g = (c .before .before .before .before .t .given) in
-    step-whole (e .pre .0) (e .pre .1 .0) (e .pre .1 .1 .0) (e .pre .1 .1 .1) (c .before .before .before .before .before .before .weigh .result) (c .before .before .before .before .before .before .weigh .ensures) (g .0 .0) (g .0 .1 .0) (g .1) (c .before .before .set-words .ensures) (c .before .with-set .ensures) (c .new .result)
+    let e = c .before .before .before .before .before .before .before .before .before .before .before .before in
+    let g = (c .before .before .before .before .before .t .given) in
+    step-whole (e .pre .0) (e .pre .1 .0) (e .pre .1 .1 .0) (e .pre .1 .1 .1) (c .before .before .before .before .before .before .before .weigh .result) (c .before .before .before .before .before .before .before .weigh .ensures) (g .0 .0) (g .0 .1 .0) (g .1) (c .before .before .before .set-words .ensures) (c .before .before .set-sums .ensures) (c .before .plus .ensures) (c .new .result)
 
 returns-3 : tie.Need-returns-3
 returns-3 c =
@@ -59,4 +65,4 @@ returns-3 c =
     step-refused (e .pre .0) (e .pre .1 .0) (e .pre .1 .1 .0) (e .pre .1 .1 .1) (c .before .before .before .weigh .result) (c .before .before .before .weigh .ensures) (g .0 .0) (g .0 .1 .0) (g .1)
 
 pub set-step-spec : {M : Type 1} → statement M
-set-step-spec = tie.close (tie.spec mul-part sub-part part-part-start (search needs) weigh-requires (search needs) (search needs) add-t21 set-words-requires with-set-requires (search needs) (search needs) add-t26 returns returns-2 returns-3)
+set-step-spec = tie.close (tie.spec mul-part sub-part part-part-start (search needs) weigh-requires (search needs) (search needs) add-t21 set-words-requires set-sums-requires plus-requires (search needs) (search needs) add-t27 returns returns-2 returns-3)
