@@ -5,16 +5,12 @@ use mathlib.Core.Bool.{Bool, cond}
 use mathlib.Core.List.{List, [], _∷_}
 use lib.Dec.{eqb}
 use lib.ListN.{length}
-use Rattle.rules.specs.declared.Bands.{Bands}
 use Rattle.rules.specs.declared.Sums.{Sums}
 use Rattle.rules.specs.Word.{bitOf}
-use Rattle.rules.specs.Book.{FinancingTrade, Item}
-use Rattle.rules.specs.Run.{Turn, over, bad, some, Run, runFrom}
+use Rattle.rules.specs.Book.{FinancingTrade}
+use Rattle.rules.specs.Run.{Run, runFrom}
 use Rattle.rules.specs.Read.{financingMemberTurn}
-use Rattle.records.specs.declared.ItemStep.{ItemStep}
-use Rattle.records.specs.declared.ItemStep.the-variants.{Next}
 use Rattle.records.specs.declared.ItemStep.the-variants as item
-use Rattle.records.specs.Sums.{itemSums}
 use Rattle.financing.specs.declared.tally.FinancingTally.{FinancingTally}
 use Rattle.financing.specs.declared.trades.Weighed.{Weighed}
 use Rattle.financing.specs.declared.trades.Weighed.the-variants.{Whole, Refused}

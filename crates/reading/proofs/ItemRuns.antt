@@ -1,5 +1,5 @@
 -- The runs of assets and of off-balance items. Assumes nothing.
-use Prim.Native.Nat.{ℕ, _+_, _-_, _*_, _≤_}
+use Prim.Native.Nat.{ℕ, _+_, _-_, _≤_}
 use mathlib.Core.Path.{_≡_, refl, sym, _∙_, ap}
 use mathlib.Core.Bool.{Bool, true, false}
 use mathlib.Core.List.{List}
@@ -10,15 +10,14 @@ use lib.ListN.{drop}
 use lib.Seq.{getD-drop}
 use Rattle.rules.specs.declared.Bands.{Bands}
 use Rattle.rules.specs.declared.Sums.{Sums}
-use Rattle.rules.specs.Word.{word, fieldOf, sizeOf}
+use Rattle.rules.specs.Word.{word, sizeOf}
 use Rattle.rules.specs.Book.{asset, offBalance}
 use Rattle.rules.specs.Faults.{assetFault, offBalanceFault}
-use Rattle.rules.specs.Factors.{conversionOf}
 use Rattle.rules.specs.Read.{headOf, stands, assetAt, assetTurn, offBalanceAt, offBalanceTurn}
-use Rattle.rules.specs.Rows.{assetRows}
+use Rattle.rules.specs.Rows.{assetRows, row18}
 use Rattle.records.specs.Readable.{Readable}
 use Rattle.records.specs.Sums.{plus}
-use Rattle.records.specs.Step.{plusItem, assetWords, assetList, assetCause, assetSums, offBalanceCause, offBalanceSums, soundAt}
+use Rattle.records.specs.Step.{plusItem, assetWords, assetList, assetCause, assetSums, offBalanceWords, offBalanceList, offBalanceCause, offBalanceSums, soundAt}
 use Rattle.records.proofs.Good.{asset-is, good-within}
 use Rattle.records.proofs.SumLaws.{asset-more, off-balance-more}
 use Rattle.reading.specs.declared.items.ItemAnswer.the-variants.{More, Refused}
@@ -63,7 +62,7 @@ module _ (ws : List ℕ) (at : ℕ) where
   unfolding assetAt
   asset-listed = simp (word-here, add-zero)
 
-  off-balance-listed : offBalanceAt (drop at ws) ≡ record { class = fieldOf 0 4 (word ws at); committed = fieldOf 4 4 (word ws at); notional = sizeOf (word ws (at + 1)) }
+  off-balance-listed : offBalanceAt (drop at ws) ≡ offBalanceAt (offBalanceList (offBalanceWords ws at))
   unfolding offBalanceAt
   off-balance-listed = simp (word-here, add-zero)
 
@@ -97,7 +96,7 @@ module _ {ws : List ℕ} {t : Sums} {at : ℕ} (f : SumsUpTo ws t at) {b : Bool}
   off-balance-there = record { within = off-balance-onward (headOf ws .bands) .sums-up-to .readable .within; short = f .readable .short }
 
 module _ {ws : List ℕ} (s : Sums) {from : ℕ} (notionals unconverted : ℕ) {at : ℕ} (r : Running ws s from (plus s (offBalanceSums notionals unconverted)) at) {b : Bool} (q : b ≡ soundAt 10 offBalanceCause ws at) (e : b ≡ true) where
-  pub off-balance-next : {x y : ℕ} → x ≡ sizeOf (word ws (at + 1)) → y ≡ (1000 - conversionOf (fieldOf 0 4 (word ws at)) (fieldOf 4 4 (word ws at))) * sizeOf (word ws (at + 1))
+  pub off-balance-next : {x y : ℕ} → x ≡ offBalanceAt (offBalanceList (offBalanceWords ws at)) .notional → y ≡ row18 (offBalance (offBalanceAt (offBalanceList (offBalanceWords ws at))))
       → Running ws s from (plus s (offBalanceSums (notionals + x) (unconverted + y))) (at + 2)
   off-balance-next xq yq =
       rw (xq, yq) (

@@ -5,8 +5,8 @@ use mathlib.Core.Bool.{Bool, true, false, cond}
 use mathlib.Core.List.{List, []}
 use native.Mathlib.Omega.{arith}
 use borrow.Author.Tests.{eqb-true, leb-true, leb-false}
-use lib.Dec.{eqb, leb}
-use lib.ListN.{length, drop}
+use lib.Dec.{leb}
+use lib.ListN.{drop}
 use Rattle.rules.specs.declared.Bands.{Bands}
 use Rattle.rules.specs.declared.Sums.{Sums}
 use Rattle.rules.specs.Word.{word, kindOf, amountsOfKind}
@@ -15,14 +15,12 @@ use Rattle.rules.specs.Read.{lacks, recordThen, stands, itemOf, placed}
 use Rattle.rules.specs.Register.{drawsIn}
 use Rattle.rules.specs.Book.{Item}
 use Rattle.rules.proofs.Lists.{and-left, and-right}
-use Rattle.theorems.proofs.Records.{lacks-room}
 use Rattle.records.proofs.Words.{record-good}
 use Rattle.records.specs.Step.{plusItem, soundAt}
-use Rattle.reading.specs.declared.Admission.the-variants.{Refused}
 use Rattle.reading.specs.Steps.{SumsUpTo}
-use Rattle.reading.specs.Ahead.{endsAt, fromItem}
+use Rattle.reading.specs.Ahead.{fromItem}
 use Rattle.reading.proofs.AheadLaws.{Onward, onward}
-use Rattle.reading.proofs.ItemLaws.{Met, met, kind-here, turn-here, halted}
+use Rattle.reading.proofs.ItemLaws.{Met, met, kind-here, turn-here}
 
 -- from a place and its sums on, so far: what lies ahead is the same, whatever the bands
 pub record Running (ws : List ℕ) (s : Sums) (from : ℕ) (t : Sums) (at : ℕ) : Type 0 where

@@ -1,18 +1,17 @@
 -- An item of one record without a fault, told by few tests of its words; and an asset's mark as a number. Assumes nothing.
-use Prim.Native.Nat.{ℕ, zero, suc, _+_, _-_, _*_, _/_, _%_, _^_, _≤_, _<_}
-use mathlib.Core.Path.{_≡_, refl, sym, _∙_, ap}
+use Prim.Native.Nat.{ℕ, _+_, _-_, _*_, _/_, _%_, _^_, _≤_, _<_}
+use mathlib.Core.Path.{_≡_, refl, _∙_}
 use mathlib.Core.Bool.{Bool, true, false, not, _&&_, _||_, cond, and-false}
 use mathlib.Core.List.{List}
 use native.Mathlib.Nat.{add-zero, mul-le-mul-right}
 use native.Mathlib.Omega.{arith}
-use borrow.Author.Tests.{eq-eqb, eqb-true, lt-leb, le-leb, leb-true, leb-false, lt-ltb, le-ltb, ltb-true, ltb-false, not-true}
+use borrow.Author.Tests.{eq-eqb, eqb-true, lt-leb, le-leb, leb-true, leb-false, lt-ltb, ltb-true, ltb-false, not-true}
 use lib.Dec.{eqb, leb, ltb}
 use lib.ListN.{length, drop, length-drop}
 use lib.Seq.{getD-drop}
 use Rattle.rules.specs.Word.{word, kindOf, bitOf, payloadOf, fieldOf, sizeOf, faultyAmount}
 use Rattle.rules.specs.Faults.{cause, assetFault, offBalanceFault}
-use Rattle.rules.specs.Factors.{conversionOf}
-use Rattle.rules.specs.Read.{lacks, stands, assetAt}
+use Rattle.rules.specs.Read.{lacks, assetAt}
 use Rattle.rules.specs.Rows.{AssetRows, assetRows}
 use Rattle.rules.proofs.Lists.{and-right}
 use Rattle.words.proofs.Both.{as-both}

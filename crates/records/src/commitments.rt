@@ -22,12 +22,15 @@ ghost use Prim.Native.Nat.{_+_, _-_, _*_, _^_, _≤_, _<_};
 ghost use lib.Dec.{eqb, leb};
 ghost use lib.ListN.{length};
 ghost use denote.Ref.{now};
-ghost use Rattle.rules.specs.Word.{fieldOf, kindOf, payloadOf, sizeOf};
+ghost use Rattle.rules.specs.Word.{fieldOf, kindOf, payloadOf};
 ghost use Rattle.rules.specs.Faults.{offBalanceFault};
 ghost use Rattle.rules.specs.Factors.{conversionOf};
+ghost use Rattle.rules.specs.Book.{offBalance};
+ghost use Rattle.rules.specs.Read.{offBalanceAt};
+ghost use Rattle.rules.specs.Rows.{row18};
 ghost use Rattle.weights.specs.Figures.{conversionFigures};
 ghost use Rattle.records.specs.Readable.{Readable};
-ghost use Rattle.records.specs.Step.{goodOffBalance, offBalanceCause, offBalanceSums, offBalanceWords, soundAt};
+ghost use Rattle.records.specs.Step.{goodOffBalance, offBalanceCause, offBalanceList, offBalanceSums, offBalanceWords, soundAt};
 
 // The head word of an off-balance item but for its two classes.
 const HEAD: u32 = kinds::OFF_BALANCE << 20;
@@ -139,7 +142,7 @@ pub fn off_balance_cause(part: &[u32]) -> u32
 // "18: −unconverted part": what its figure leaves of the notional, in thousandths.
 pub fn unconverted_by(o: OffBalanceWords, figures: &[u64; 17]) -> u64
     requires { ⌜ now figures ≡ conversionFigures ⌝ }
-    ensures { λ r. ⌜ r ≡ (1000 - conversionOf (fieldOf 0 4 (o .head)) (fieldOf 4 4 (o .head))) * sizeOf (o .notional) ⌝ }
+    ensures { λ r. ⌜ r ≡ row18 (offBalance (offBalanceAt (offBalanceList o))) ⌝ }
 {
     (1000 - o.figure(figures)) * wide(size(o.notional))
 }

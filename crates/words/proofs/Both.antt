@@ -4,7 +4,7 @@ use mathlib.Core.Path.{_≡_, refl, sym}
 use mathlib.Core.Bool.{Bool, true, false, not, _&&_, true≢false}
 use native.Mathlib.Omega.{arith}
 use borrow.Author.Tests.{eq-eqb, eqb-true, lt-leb, leb-false, lt-ltb, ltb-true, not-true}
-use lib.Dec.{eqb, leb, ltb}
+use lib.Dec.{eqb, ltb}
 use Rattle.rules.specs.Word.{kindOf, faultyAmount}
 
 pub as-both : (t a b : Bool) → (t ≡ true → (a ≡ true) × (b ≡ true)) → (a ≡ true → b ≡ true → t ≡ true) → t ≡ (a && b)

@@ -1,10 +1,6 @@
-// A word's kind, payload, single bits and fields; and how many amounts its kind has.
-use crate::numbers::from_byte;
+// A word's kind, payload, single bits and fields.
 ghost use mathlib.Core.Path.{_≡_};
-ghost use Rattle.rules.specs.Word.{amountsIn, bitOf, fieldOf, kindOf, payloadOf};
-
-// How many amounts follow a word of each kind. Sixteen figures, so that every kind of four bits has one.
-const AMOUNTS: [u8; 16] = [0, 1, 3, 3, 3, 4, 5, 1, 0, 7, 1, 0, 0, 0, 0, 0];
+ghost use Rattle.rules.specs.Word.{bitOf, fieldOf, kindOf, payloadOf};
 
 pub fn kind(w: u32) -> u32
     ensures { λ r. ⌜ r ≡ kindOf w ⌝ }
@@ -40,11 +36,4 @@ pub fn field(w: u32, low: u32, count: u32) -> u32
     }
     let mask = (1 << count) - 1;
     (w >> low) & mask
-}
-
-pub fn amounts(w: u32) -> u32
-    ensures { λ r. ⌜ r ≡ amountsIn w ⌝ }
-{
-    let place = (w >> 28) as usize;
-    from_byte(AMOUNTS[place])
 }

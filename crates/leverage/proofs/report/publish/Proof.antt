@@ -4,27 +4,6 @@ use borrow.Author.Needs.{needs}
 use Rattle.leverage.proofs.report.publish.Statement.{statement}
 use Rattle.leverage.proofs.report.publish.Tie as tie
 
-tier1-gain-requires : tie.Need-tier1-gain-requires
-tier1-gain-requires c κs = search needs
-
-tier1-loss-requires : tie.Need-tier1-loss-requires
-tier1-loss-requires c κs = search needs
-
-rows-of-requires : tie.Need-rows-of-requires
-rows-of-requires c κs = search needs
-
-copy-out-requires : tie.Need-copy-out-requires
-copy-out-requires c κs = search needs
-
-exposure-requires : tie.Need-exposure-requires
-exposure-requires c κs = search needs
-
-verdict-requires : tie.Need-verdict-requires
-verdict-requires c κs = search needs
-
-same-length : tie.Need-same-length
-same-length c = search needs
-
 returns : tie.Need-returns
 returns c =
     let e = c .before .before .before .before .before .before .before .before .before in
@@ -39,11 +18,11 @@ pub publish-spec : {M : Type 1} → statement M
 publish-spec =
     tie.close
     (tie.spec
-    tier1-gain-requires
-    tier1-loss-requires
-    rows-of-requires
-    copy-out-requires
-    exposure-requires
-    verdict-requires
-    same-length
+    (search needs)
+    (search needs)
+    (search needs)
+    (search needs)
+    (search needs)
+    (search needs)
+    (search needs)
     returns)

@@ -10,49 +10,19 @@ Inv-loop rows k₀ t3 k = k ≤ length rows
 abbrev μ-loop : tie.MeasureT-loop
 μ-loop rows k₀ t3 k = length rows - k
 
-loop-holds : tie.Need-loop-holds Inv-loop μ-loop
-loop-holds c = search needs
-
-slice-aggregate-write-all : tie.Need-slice-aggregate-write-all Inv-loop μ-loop
-slice-aggregate-write-all c = search needs
-
-write-all-requires : tie.Need-write-all-requires Inv-loop μ-loop
-write-all-requires c κs = search needs
-
-mul-print-signed : tie.Need-mul-print-signed Inv-loop μ-loop
-mul-print-signed c = search needs
-
-shared-slice-copy-out-print-signed : tie.Need-shared-slice-copy-out-print-signed Inv-loop μ-loop
-shared-slice-copy-out-print-signed c = search needs
-
-print-signed-requires : tie.Need-print-signed-requires Inv-loop μ-loop
-print-signed-requires c κs = search needs
-
-add-k : tie.Need-add-k Inv-loop μ-loop
-add-k c = search needs
-
-loop-less : tie.Need-loop-less Inv-loop μ-loop
-loop-less c = search needs
-
-loop-again : tie.Need-loop-again Inv-loop μ-loop
-loop-again c = search needs
-
-returns : tie.Need-returns Inv-loop μ-loop
-returns c = search needs
-
 pub print-rows-spec : {M : Type 1} → statement M
 print-rows-spec =
     tie.close
     (tie.spec
     Inv-loop
     μ-loop
-    loop-holds
-    slice-aggregate-write-all
-    write-all-requires
-    mul-print-signed
-    shared-slice-copy-out-print-signed
-    print-signed-requires
-    add-k
-    loop-less
-    loop-again
-    returns)
+    (search needs)
+    (search needs)
+    (search needs)
+    (search needs)
+    (search needs)
+    (search needs)
+    (search needs)
+    (search needs)
+    (search needs)
+    (search needs))

@@ -9,35 +9,17 @@ returns : tie.Need-returns
 unfolding headFaulty
 returns c = simp (lt-ltb _ _ (c .if1 .taken))
 
-shared-slice-read-head : tie.Need-shared-slice-read-head
-shared-slice-read-head c = search needs
-
-kind-requires : tie.Need-kind-requires
-kind-requires c κs = search needs
-
 returns-2 : tie.Need-returns-2
 unfolding headFaulty
 returns-2 c = simp (← (c .before .kind .ensures), ne-eqb _ _ (c .if2 .taken), or-true)
-
-payload-requires : tie.Need-payload-requires
-payload-requires c κs = search needs
 
 returns-3 : tie.Need-returns-3
 unfolding headFaulty
 returns-3 c = simp (← (c .before .payload .ensures), lt-ltb 4096 _ (c .if3 .taken), or-true)
 
-shared-slice-read-tier1 : tie.Need-shared-slice-read-tier1
-shared-slice-read-tier1 c = search needs
-
-kind-requires-2 : tie.Need-kind-requires-2
-kind-requires-2 c κs = search needs
-
 returns-4 : tie.Need-returns-4
 unfolding headFaulty
 returns-4 c = simp (← (c .before .kind2 .ensures), ne-eqb _ _ (c .if4 .taken), or-true)
-
-minus-zero-requires : tie.Need-minus-zero-requires
-minus-zero-requires c κs = search needs
 
 returns-5 : tie.Need-returns-5
 unfolding headFaulty
@@ -54,13 +36,13 @@ head-faulty-spec =
     tie.close
     (tie.spec
     returns
-    shared-slice-read-head
-    kind-requires
+    (search needs)
+    (search needs)
     returns-2
-    payload-requires
+    (search needs)
     returns-3
-    shared-slice-read-tier1
-    kind-requires-2
+    (search needs)
+    (search needs)
     returns-4
-    minus-zero-requires
+    (search needs)
     returns-5)

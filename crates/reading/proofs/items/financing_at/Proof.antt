@@ -1,5 +1,4 @@
 -- What the set brings is added, or its fault stands in the book. Assumes nothing.
-use mathlib.Core.Path.{_∙_}
 use native.Mathlib.Omega.{arith}
 use Rattle.rules.specs.Read.{headOf, financingSetTurn}
 use Rattle.reading.proofs.AheadLaws.{sums-roomy, more-roomy}

@@ -4,22 +4,13 @@ use borrow.Author.Needs.{needs}
 use Rattle.reading.proofs.protections.protection_fault.Statement.{statement}
 use Rattle.reading.proofs.protections.protection_fault.Tie as tie
 
-payload-requires : tie.Need-payload-requires
-payload-requires c κs = search needs
-
 returns : tie.Need-returns
 unfolding protectionFault cause
 returns c = simp (← (c .before .payload .ensures), le-leb _ _ (c .if1 .taken))
 
-faulty-amount-requires : tie.Need-faulty-amount-requires
-faulty-amount-requires c κs = search needs
-
 returns-2 : tie.Need-returns-2
 unfolding protectionFault cause
 returns-2 c = simp (← (c .before .before .before .payload .ensures), lt-leb _ _ (c .before .before .if1 .left), ← (c .before .faulty-amount .ensures), (c .if2 .taken))
-
-faulty-amount-requires-2 : tie.Need-faulty-amount-requires-2
-faulty-amount-requires-2 c κs = search needs
 
 returns-3 : tie.Need-returns-3
 unfolding protectionFault cause
@@ -28,9 +19,6 @@ returns-3 c =
     let if1 = c .before .before .before .before .if1 in
     let payload = c .before .before .before .before .before .payload in
     simp (← (payload .ensures), lt-leb _ _ (if1 .left), ← (faulty-amount .ensures), (c .before .before .if2 .left), ← (c .before .faulty-amount2 .ensures), (c .if3 .taken))
-
-faulty-days-requires : tie.Need-faulty-days-requires
-faulty-days-requires c κs = search needs
 
 returns-4 : tie.Need-returns-4
 unfolding protectionFault cause
@@ -41,12 +29,6 @@ returns-4 c =
     let if1 = c .before .before .before .before .before .before .if1 in
     let payload = c .before .before .before .before .before .before .before .payload in
     simp (← (payload .ensures), lt-leb _ _ (if1 .left), ← (faulty-amount .ensures), (if2 .left), ← (faulty-amount2 .ensures), (c .before .before .if3 .left), ← (c .before .faulty-days .ensures), (c .if4 .taken))
-
-size-requires : tie.Need-size-requires
-size-requires c κs = search needs
-
-size-requires-2 : tie.Need-size-requires-2
-size-requires-2 c κs = search needs
 
 returns-5 : tie.Need-returns-5
 unfolding protectionFault cause
@@ -78,15 +60,15 @@ pub protection-fault-spec : {M : Type 1} → statement M
 protection-fault-spec =
     tie.close
     (tie.spec
-    payload-requires
+    (search needs)
     returns
-    faulty-amount-requires
+    (search needs)
     returns-2
-    faulty-amount-requires-2
+    (search needs)
     returns-3
-    faulty-days-requires
+    (search needs)
     returns-4
-    size-requires
-    size-requires-2
+    (search needs)
+    (search needs)
     returns-5
     returns-6)

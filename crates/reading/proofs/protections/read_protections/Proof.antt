@@ -19,23 +19,8 @@ abbrev μ-loop : tie.MeasureT-loop
 loop-holds : tie.Need-loop-holds Inv-loop μ-loop
 loop-holds c = (omega arith, refl)
 
-protection-requires : tie.Need-protection-requires Inv-loop μ-loop
-protection-requires c κs = search needs
-
-enum-known-next : tie.Need-enum-known-next Inv-loop μ-loop
-enum-known-next c = search needs
-
-sub-left : tie.Need-sub-left Inv-loop μ-loop
-sub-left c = search needs
-
-loop-less : tie.Need-loop-less Inv-loop μ-loop
-loop-less c = search needs
-
 loop-again : tie.Need-loop-again Inv-loop μ-loop
 loop-again c = let g = goes-on ((c .before .before .before .before .before .before .before .args .book .now)) (c .before .before .before .before .before .loop .at) ((c .before .before .before .before .before .loop .inv .0)) (c .before .before .before .before .before .loop .left) (c .before .before .before .before .loop-test .taken) ((c .before .next .given .0 .0)) (sym (c .before .before .before .protection .ensures) ∙ (c .before .next .given .1)) in (g .0, (c .before .before .before .before .before .loop .inv .1) ∙ g .1)
-
-enum-known-number : tie.Need-enum-known-number Inv-loop μ-loop
-enum-known-number c = search needs
 
 returns : tie.Need-returns Inv-loop μ-loop
 returns c =
@@ -55,11 +40,11 @@ read-protections-spec =
     Inv-loop
     μ-loop
     loop-holds
-    protection-requires
-    enum-known-next
-    sub-left
-    loop-less
+    (search needs)
+    (search needs)
+    (search needs)
+    (search needs)
     loop-again
-    enum-known-number
+    (search needs)
     returns
     returns-2)

@@ -4,6 +4,7 @@ use mathlib.Core.Path.{sym, _∙_, ap}
 use native.Mathlib.Omega.{arith}
 use borrow.Author.Needs.{needs}
 use lib.ListN.{length}
+use Rattle.rules.specs.Read.{offBalanceAt}
 use Rattle.records.specs.Sums.{plus}
 use Rattle.records.specs.Step.{offBalanceSums}
 use Rattle.records.proofs.SumLaws.{plus-none}
@@ -34,12 +35,10 @@ off-balance-words-requires c κs = off-balance-there (c .before .before .before 
 add-notionals : tie.Need-add-notionals Inv-loop μ-loop
 add-notionals c = omega (arith, sums-roomy (c .before .before .before .before .before .before .loop .inv .sums-up-to) .committed, c .wide .ensures, c .before .size .ensures)
 
-unconverted-by-requires : tie.Need-unconverted-by-requires Inv-loop μ-loop
-unconverted-by-requires c κs = search needs
-
 next :
     (c : tie.After-unconverted-by Inv-loop μ-loop)
     → Running (c .before .before .before .before .before .before .before .before .before .before .before .before .args .book .now) (c .before .before .before .before .before .before .before .before .before .before .before .before .args .s) (c .before .before .before .before .before .before .before .before .before .before .before .before .args .from) (plus (c .before .before .before .before .before .before .before .before .before .before .before .before .args .s) (offBalanceSums (c .before .before .before .before .before .before .before .before .loop .notionals + c .before .before .wide .result) (c .before .before .before .before .before .before .before .before .loop .unconverted + c .unconverted-by .result))) (c .before .before .before .before .before .before .before .before .loop .at + 2)
+unfolding offBalanceAt
 next c =
     let l = c .before .before .before .before .before .before .before .before .loop in
     let words = c .before .before .before .before .off-balance-words .ensures in
@@ -104,7 +103,7 @@ off-balance-items-spec =
     (search needs)
     (search needs)
     add-notionals
-    unconverted-by-requires
+    (λ c κs. search needs)
     add-unconverted
     add-at
     loop-less

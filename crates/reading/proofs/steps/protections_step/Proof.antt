@@ -3,30 +3,6 @@ use borrow.Author.Needs.{needs}
 use Rattle.reading.proofs.steps.protections_step.Statement.{statement}
 use Rattle.reading.proofs.steps.protections_step.Tie as tie
 
-shared-slice-read-payload : tie.Need-shared-slice-read-payload
-shared-slice-read-payload c = search needs
-
-payload-requires : tie.Need-payload-requires
-payload-requires c κs = search needs
-
-cast-read-protections : tie.Need-cast-read-protections
-cast-read-protections c = search needs
-
-read-protections-requires : tie.Need-read-protections-requires
-read-protections-requires c κs = search needs
-
-enum-known-number : tie.Need-enum-known-number
-enum-known-number c = search needs
-
-enum-known-at : tie.Need-enum-known-at
-enum-known-at c = search needs
-
-no-sums-requires : tie.Need-no-sums-requires
-no-sums-requires c κs = search needs
-
-new-requires : tie.Need-new-requires
-new-requires c κs = search needs
-
 returns : tie.Need-returns
 returns c =
     let e = c .before .before .before .before .before .before .before in
@@ -48,13 +24,13 @@ pub protections-step-spec : {M : Type 1} → statement M
 protections-step-spec =
     tie.close
     (tie.spec
-    shared-slice-read-payload
-    payload-requires
-    cast-read-protections
-    read-protections-requires
-    enum-known-number
-    enum-known-at
-    no-sums-requires
-    new-requires
+    (search needs)
+    (search needs)
+    (search needs)
+    (search needs)
+    (search needs)
+    (search needs)
+    (search needs)
+    (search needs)
     returns
     returns-2)

@@ -1,5 +1,6 @@
 use native.Mathlib.Omega.{arith}
 use Rattle.rules.specs.Word.{fieldOf}
+use Rattle.rules.specs.Read.{offBalanceAt}
 use Rattle.theorems.proofs.FactorBounds.{conversion-at-most}
 use Rattle.records.proofs.Good.{unconverted-small}
 use borrow.Author.Needs.{needs}
@@ -18,6 +19,7 @@ mul-result : tie.Need-mul-result
 mul-result c = record { fits = omega (arith, unconverted-small (c .before .before .figure .result) (c .wide .result) (omega (arith, c .wide .ensures, c .before .size .ensures))) }
 
 returns : tie.Need-returns
+unfolding offBalanceAt
 returns c = rw (c .wide .ensures, c .before .size .ensures, c .before .before .figure .ensures)
 
 pub unconverted-by-spec : {M : Type 1} → statement M

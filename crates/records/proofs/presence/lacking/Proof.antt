@@ -16,35 +16,11 @@ Inv-loop ws at n other₀ i₀ other i = (i ≤ n) × ((at + n < length ws) × (
 abbrev μ-loop : tie.MeasureT-loop
 μ-loop ws at n other₀ i₀ other i = i
 
-add-if1 : tie.Need-add-if1 Inv-loop μ-loop
-add-if1 c = search needs
-
 returns : tie.Need-returns Inv-loop μ-loop
 returns c = lacking-short (c .before .before .args .ws .now) (c .before .before .args .at) (c .before .before .args .n) (c .before .before .args .n) (omega arith) (omega arith)
 
 loop-holds : tie.Need-loop-holds Inv-loop μ-loop
 loop-holds c = (omega arith, (omega arith, refl))
-
-add-kind : tie.Need-add-kind Inv-loop μ-loop
-add-kind c = search needs
-
-mul-kind : tie.Need-mul-kind Inv-loop μ-loop
-mul-kind c = search needs
-
-shared-slice-read-kind : tie.Need-shared-slice-read-kind Inv-loop μ-loop
-shared-slice-read-kind c = search needs
-
-kind-requires : tie.Need-kind-requires Inv-loop μ-loop
-kind-requires c κs = search needs
-
-either-requires : tie.Need-either-requires Inv-loop μ-loop
-either-requires c κs = search needs
-
-sub-i : tie.Need-sub-i Inv-loop μ-loop
-sub-i c = search needs
-
-loop-less : tie.Need-loop-less Inv-loop μ-loop
-loop-less c = search needs
 
 loop-again : tie.Need-loop-again Inv-loop μ-loop
 loop-again c =
@@ -60,15 +36,15 @@ lacking-spec =
     (tie.spec
     Inv-loop
     μ-loop
-    add-if1
+    (search needs)
     returns
     loop-holds
-    add-kind
-    mul-kind
-    shared-slice-read-kind
-    kind-requires
-    either-requires
-    sub-i
-    loop-less
+    (search needs)
+    (search needs)
+    (search needs)
+    (search needs)
+    (search needs)
+    (search needs)
+    (search needs)
     loop-again
     returns-2)

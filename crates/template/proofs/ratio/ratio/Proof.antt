@@ -18,18 +18,6 @@ returns c =
     let a = c .before .args in
     sym (ratio-none (tier1Of (a .gain) (a .loss)) (a .exposure) (omega arith))
 
-sub-thousandths : tie.Need-sub-thousandths
-sub-thousandths c = search needs
-
-thousandths-requires : tie.Need-thousandths-requires
-thousandths-requires c κs = search needs
-
-mul-rounded-up : tie.Need-mul-rounded-up
-mul-rounded-up c = search needs
-
-rounded-up-requires : tie.Need-rounded-up-requires
-rounded-up-requires c κs = search needs
-
 below-zero-requires : tie.Need-below-zero-requires
 below-zero-requires c κs =
     let a = c .before .before .before .before .args in
@@ -42,15 +30,6 @@ returns-2 c =
     ∙ ap (λ (m : ℕ). negℤ (pos m)) (c .before .rounded-up .ensures)
     ∙ ap (λ (m : ℕ). negℤ (pos (ceil (10000 * m) (a .exposure)))) (c .before .before .thousandths .ensures)
     ∙ sym (ratio-loss (a .gain) (a .loss) (a .exposure) (omega arith) (omega arith))
-
-thousandths-requires-2 : tie.Need-thousandths-requires-2
-thousandths-requires-2 c κs = search needs
-
-mul-whole : tie.Need-mul-whole
-mul-whole c = search needs
-
-div-whole : tie.Need-div-whole
-div-whole c = search needs
 
 whole-requires : tie.Need-whole-requires
 whole-requires c κs =
@@ -69,14 +48,14 @@ ratio-spec =
     tie.close
     (tie.spec
     returns
-    sub-thousandths
-    thousandths-requires
-    mul-rounded-up
-    rounded-up-requires
+    (search needs)
+    (search needs)
+    (search needs)
+    (search needs)
     below-zero-requires
     returns-2
-    thousandths-requires-2
-    mul-whole
-    div-whole
+    (search needs)
+    (search needs)
+    (search needs)
     whole-requires
     returns-3)

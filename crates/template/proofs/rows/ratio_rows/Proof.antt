@@ -9,33 +9,9 @@ use Rattle.template.proofs.Sections.{row, tier1-is, exposure-small, exp
 use Rattle.template.proofs.rows.ratio_rows.Statement.{statement}
 use Rattle.template.proofs.rows.ratio_rows.Tie as tie
 
-exposure-requires : tie.Need-exposure-requires
-exposure-requires c κs = search needs
-
-thousandths-requires : tie.Need-thousandths-requires
-thousandths-requires c κs = search needs
-
-thousandths-requires-2 : tie.Need-thousandths-requires-2
-thousandths-requires-2 c κs = search needs
-
-signed-requires : tie.Need-signed-requires
-signed-requires c κs = search needs
-
-array-set-from-rows : tie.Need-array-set-from-rows
-array-set-from-rows c = search needs
-
 signed-requires-2 : tie.Need-signed-requires-2
 signed-requires-2 c κs =
     (exposure-small (c .before .before .before .before .args .s) (c .before .before .before .before .pre) _ (c .before .before .before .exposure .ensures), omega arith)
-
-array-set-from-rows-2 : tie.Need-array-set-from-rows-2
-array-set-from-rows-2 c = search needs
-
-ratio-requires : tie.Need-ratio-requires
-ratio-requires c κs = search needs
-
-array-set-from-rows-3 : tie.Need-array-set-from-rows-3
-array-set-from-rows-3 c = search needs
 
 returns : tie.Need-returns
 returns c =
@@ -51,13 +27,13 @@ pub ratio-rows-spec : {M : Type 1} → statement M
 ratio-rows-spec =
     tie.close
     (tie.spec
-    exposure-requires
-    thousandths-requires
-    thousandths-requires-2
-    signed-requires
-    array-set-from-rows
+    (search needs)
+    (search needs)
+    (search needs)
+    (search needs)
+    (search needs)
     signed-requires-2
-    array-set-from-rows-2
-    ratio-requires
-    array-set-from-rows-3
+    (search needs)
+    (search needs)
+    (search needs)
     returns)

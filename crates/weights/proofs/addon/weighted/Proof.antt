@@ -13,24 +13,6 @@ returns c =
     let a = c .before .args in
     sym (weighted-none (a .x) (a .gross) (a .gross - a .losses) (c .if1 .taken))
 
-less-requires : tie.Need-less-requires
-less-requires c κs = search needs
-
-mul-share-of : tie.Need-mul-share-of
-mul-share-of c = search needs
-
-mul-share-of-2 : tie.Need-mul-share-of-2
-mul-share-of-2 c = search needs
-
-add-share-of : tie.Need-add-share-of
-add-share-of c = search needs
-
-mul-share-of-3 : tie.Need-mul-share-of-3
-mul-share-of-3 c = search needs
-
-share-of-requires : tie.Need-share-of-requires
-share-of-requires c κs = search needs
-
 returns-2 : tie.Need-returns-2
 returns-2 c =
     let a = c .before .before .before .before .before .args in
@@ -57,12 +39,12 @@ weighted-spec =
     tie.close
     (tie.spec
     returns
-    less-requires
-    mul-share-of
-    mul-share-of-2
-    add-share-of
-    mul-share-of-3
-    share-of-requires
+    (search needs)
+    (search needs)
+    (search needs)
+    (search needs)
+    (search needs)
+    (search needs)
     returns-2
     add-result
     returns-3)

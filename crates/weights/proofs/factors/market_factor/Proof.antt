@@ -7,21 +7,6 @@ use Rattle.weights.proofs.Cases.{market-larger}
 use Rattle.weights.proofs.factors.market_factor.Statement.{statement}
 use Rattle.weights.proofs.factors.market_factor.Tie as tie
 
-least-factor-requires : tie.Need-least-factor-requires
-least-factor-requires c κs = search needs
-
-deciding-days-requires : tie.Need-deciding-days-requires
-deciding-days-requires c κs = search needs
-
-band-requires : tie.Need-band-requires
-band-requires c κs = search needs
-
-factor-at-requires : tie.Need-factor-at-requires
-factor-at-requires c κs = search needs
-
-larger-requires : tie.Need-larger-requires
-larger-requires c κs = search needs
-
 returns : tie.Need-returns
 returns c =
     let f = c .before in
@@ -37,9 +22,9 @@ pub market-factor-spec : {M : Type 1} → statement M
 market-factor-spec =
     tie.close
     (tie.spec
-    least-factor-requires
-    deciding-days-requires
-    band-requires
-    factor-at-requires
-    larger-requires
+    (search needs)
+    (search needs)
+    (search needs)
+    (search needs)
+    (search needs)
     returns)

@@ -1,5 +1,4 @@
 use Rattle.rules.specs.Faults.{cause}
-use borrow.Author.Needs.{needs}
 use Rattle.words.proofs.causes.cause.Statement.{statement}
 use Rattle.words.proofs.causes.cause.Tie as tie
 
