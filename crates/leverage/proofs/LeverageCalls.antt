@@ -1,4 +1,4 @@
--- The functions that the walks of this crate call, one step each, by crate register's Lent: what each takes and what it leaves. A walk
+-- The functions that the walks of this crate call, one step each, by crate lending's Lent: what each takes and what it leaves. A walk
 -- that passes the book on has the book and its token at the head of the context; one that lends a `&mut` slice has that slice and its
 -- token there, and then the book and its token.
 use mathlib.Core.Path.{_≡_, refl, ap, _∙_, subst}
@@ -37,9 +37,10 @@ use Rattle.rules.specs.Filing.{admission, registerAfter}
 use Rattle.reading.specs.declared.Admission.{Admission}
 use Rattle.reading.proofs.Admission as TA
 use Rattle.reading.proofs.Admission.Laws as TA′
-use Rattle.register.proofs.Rows.{KnownCase, told-case, known-case, R, mach-admission, IsAdmission, admission-makes}
-use Rattle.register.proofs.Relend.{slice, Claim}
-use Rattle.register.proofs.Lent.{mut-own, shr-own, left, left-shared, left-both, Call, calls-plain, calls-passed, calls-both}
+use Rattle.register.proofs.Rows.{R, mach-admission, IsAdmission, admission-makes}
+use Rattle.lending.proofs.Known.{KnownCase, told-case, known-case}
+use Rattle.lending.proofs.Relend.{slice, Claim}
+use Rattle.lending.proofs.Lent.{mut-own, shr-own, left, left-shared, left-both, Call, calls-plain, calls-passed, calls-both}
 use Rattle.leverage.specs.declared.Answer.{Answer}
 use Rattle.leverage.specs.Answers.{earlyNumber, refusedIn, admissionOf, answerTo, rowsTo, AdmissionFits}
 use Rattle.leverage.proofs.Answer as TN

@@ -3,6 +3,4 @@ pub mod StageLaws
 pub mod FilingLaws
 pub mod CaseLaws
 pub mod LeverageCalls
-pub mod LentArray
 pub mod PackLaws
-pub mod GivenAway

@@ -52,9 +52,10 @@ use Rattle.register.specs.Loading.{protectionPlace, loadedFrom}
 use Rattle.register.specs.Draws.{drawnDown, faultIn, drawnIn, readingAfter, leftAfter}
 use Rattle.register.proofs.entries.Drawn as TA
 use Rattle.register.proofs.entries.Drawn.Laws as TA′
-use Rattle.register.proofs.Rows.{Known, told, known, told-case, known-case, R, mach, IsEntry, mach-draw, IsDraw, mach-drawn, mach-cursor, IsCursor, mach-next-cover, IsNextCover, mach-admission, IsAdmission, makes, draw-makes, cursor-makes}
-use Rattle.register.proofs.Relend.{slice, Claim}
-use Rattle.register.proofs.Lent.{mut-own, shr-own, left, left-shared, left-lent, left-both, Call, calls-plain, calls-lent, calls-passed, calls-both}
+use Rattle.register.proofs.Rows.{R, mach, IsEntry, mach-draw, IsDraw, mach-drawn, mach-cursor, IsCursor, mach-next-cover, IsNextCover, mach-admission, IsAdmission, makes, draw-makes, cursor-makes}
+use Rattle.lending.proofs.Known.{Known, told, known, told-case, known-case}
+use Rattle.lending.proofs.Relend.{slice, Claim}
+use Rattle.lending.proofs.Lent.{mut-own, shr-own, left, left-shared, left-lent, left-both, Call, calls-plain, calls-lent, calls-passed, calls-both}
 use Rattle.register.proofs.book.entry_from as entry-from′
 use Rattle.register.proofs.entries.drawn_down as drawn-down′
 use Rattle.register.proofs.entries.empty as empty′

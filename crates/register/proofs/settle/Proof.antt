@@ -64,8 +64,8 @@ use Rattle.reading.proofs.cursor.next_draw.Met as next-thm
 use Rattle.register.specs.Loading.{loadedFrom}
 use Rattle.register.specs.Draws.{faultIn, drawnIn, readingAfter, leftAfter}
 use Rattle.register.proofs.Rows.{R, mach-cursor, IsCursor, mach-next-cover, IsNextCover, mach-admission, IsAdmission, is-refused, its-draw, its-cursor, its-admission, its-place, admission-makes, typed-cursor, typed-next-cover, typed-admission}
-use Rattle.register.proofs.Relend.{slice}
-use Rattle.register.proofs.Lent.{tl, enters, mut-own, shr-own, mid, less, less-wf, twice-not, holds-true}
+use Rattle.lending.proofs.Relend.{slice}
+use Rattle.lending.proofs.Lent.{tl, enters, mut-own, shr-own, mid, less, less-wf, twice-not, holds-true}
 use Rattle.register.proofs.Loaded.{loaded-length}
 use Rattle.register.proofs.Start.{start-ahead, start-sound}
 use Rattle.register.proofs.Settling.{same-fault, same-entries, unfit-stays, Ends, comesTo, ends, refuses, goes-on, found, none, fewer}

@@ -46,8 +46,8 @@ use Rattle.rules.specs.Filing.{Outcome, admission, registerAfter}
 use Rattle.reading.proofs.Admission as TA
 use Rattle.reading.proofs.Admission.Laws as TA′
 use Rattle.register.proofs.Rows.{R, mach-admission, IsAdmission, is-refused, admission-makes, typed-admission}
-use Rattle.register.proofs.Relend.{slice}
-use Rattle.register.proofs.Lent.{enters, mut-own, shr-own, mid, twice-not, holds-true, fails-false}
+use Rattle.lending.proofs.Relend.{slice}
+use Rattle.lending.proofs.Lent.{enters, mut-own, shr-own, mid, twice-not, holds-true, fails-false}
 use Rattle.register.proofs.Calls.{Settle, Clear, calls-settle, calls-clear}
 use Rattle.reading.specs.declared.Admission.{Admission}
 use Rattle.reading.specs.declared.Admission.the-variants.{Refused}

@@ -44,8 +44,8 @@ use Rattle.rules.specs.Filing.{filing}
 use Rattle.rules.proofs.Entry as TE
 use Rattle.rules.proofs.Entry.Laws as TE′
 use Rattle.register.proofs.Rows.{R, mach, blank-is, makes, typed}
-use Rattle.register.proofs.Relend.{slice}
-use Rattle.register.proofs.Lent.{enters, mut-own, shr-own, mid}
+use Rattle.lending.proofs.Relend.{slice}
+use Rattle.lending.proofs.Lent.{enters, mut-own, shr-own, mid}
 use Rattle.leverage.specs.declared.Answer.{Answer}
 use Rattle.leverage.specs.Answers.{filed, seen}
 use Rattle.leverage.proofs.Answer as TN
@@ -65,7 +65,7 @@ use denote.Triple.Clauses.{Lasts}
 use denote.Triple.Statement.{Contract}
 use denote.Triple.Walked.{stay-dropped, goes-dropped}
 use denote.Signature.{shrSliceOf}
-use Rattle.leverage.proofs.LentArray.{big-lit, array-out, array-room, Gone, left-three, calls-owned}
+use Rattle.lending.proofs.LentArray.{big-lit, array-out, array-room, Gone, left-three, calls-owned}
 use Rattle.leverage.proofs.file.file as filed′
 use Rattle.leverage.proofs.file.file.Symbol as file-def
 use Rattle.leverage.proofs.file.file.Symbol.{name as #file}

@@ -42,8 +42,8 @@ use denote.Enum.Laws as LE
 use Rattle.rules.specs.declared.Entry.{Entry}
 use Rattle.rules.specs.Filing.{filing}
 use Rattle.register.proofs.Rows.{R}
-use Rattle.register.proofs.Relend.{slice}
-use Rattle.register.proofs.Lent.{enters, mut-own, shr-own, mid, left, calls-plain}
+use Rattle.lending.proofs.Relend.{slice}
+use Rattle.lending.proofs.Lent.{enters, mut-own, shr-own, mid, left, calls-plain}
 use Rattle.leverage.specs.declared.Answer.{Answer}
 use Rattle.leverage.specs.Answers.{filed, packed, packedAnswer}
 use Rattle.leverage.proofs.Answer as TN
@@ -51,7 +51,7 @@ use Rattle.leverage.proofs.Answer.Laws as TN′
 use Rattle.leverage.proofs.LeverageCalls.{mach-answer, IsAnswer, answer-makes}
 use denote.Triple.Clauses.{Lasts}
 use Rattle.leverage.proofs.PackLaws.{unpacked}
-use Rattle.leverage.proofs.GivenAway.{Gone, calls-given, left-given}
+use Rattle.lending.proofs.GivenAway.{Gone, calls-given, left-given}
 use Rattle.leverage.proofs.file.file as filed′
 use Rattle.leverage.proofs.file.file.Symbol as file-def
 use Rattle.leverage.proofs.file.file.Symbol.{name as #file}

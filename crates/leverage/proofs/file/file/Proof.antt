@@ -41,8 +41,8 @@ use denote.Enum.Laws as LE
 use Rattle.rules.specs.declared.Entry.{Entry}
 use Rattle.rules.specs.Filing.{filing}
 use Rattle.register.proofs.Rows.{R, typed-admission}
-use Rattle.register.proofs.Relend.{slice}
-use Rattle.register.proofs.Lent.{enters, mut-own, shr-own, mid}
+use Rattle.lending.proofs.Relend.{slice}
+use Rattle.lending.proofs.Lent.{enters, mut-own, shr-own, mid}
 use Rattle.leverage.specs.declared.Answer.{Answer}
 use Rattle.leverage.specs.declared.Answer.the-variants.{Refused}
 use Rattle.leverage.specs.Answers.{filed}

@@ -44,8 +44,8 @@ use Rattle.rules.specs.declared.Entry.{Entry}
 use Rattle.rules.specs.Register.{blank}
 use Rattle.rules.proofs.Entry.Laws as TE′
 use Rattle.register.proofs.Rows.{R, blank-is, typed}
-use Rattle.register.proofs.Relend.{slice}
-use Rattle.register.proofs.Lent.{mut-own, mid, tests, less, less-wf}
+use Rattle.lending.proofs.Relend.{slice}
+use Rattle.lending.proofs.Lent.{mut-own, mid, tests, less, less-wf}
 use Rattle.register.proofs.Calls.{Load, Empty, calls-load, calls-empty}
 use Rattle.register.proofs.entries.load.Symbol as load-def
 use Rattle.register.proofs.entries.load.Symbol.{name as #load}

@@ -51,8 +51,8 @@ use Rattle.register.specs.Draws.{drawnDown, faultIn, drawnIn}
 use Rattle.register.proofs.entries.Drawn as TA
 use Rattle.register.proofs.entries.Drawn.Laws as TA′
 use Rattle.register.proofs.Rows.{R, mach, mach-draw, IsDraw, its-protection, fits16, place16, makes, draw-makes, typed, typed-draw}
-use Rattle.register.proofs.Relend.{slice}
-use Rattle.register.proofs.Lent.{enters, mut-own, mid, poke-in, poke-out}
+use Rattle.lending.proofs.Relend.{slice}
+use Rattle.lending.proofs.Lent.{enters, mut-own, mid, poke-in, poke-out}
 use Rattle.register.proofs.Calls.{DrawnDown, calls-drawn-down}
 use Rattle.register.proofs.entries.drawn_down.Symbol as drawn-down-def
 use Rattle.register.proofs.entries.drawn_down.Symbol.{name as #drawn-down}

@@ -37,8 +37,8 @@ use Rattle.rules.specs.declared.Entry.{Entry}
 use Rattle.rules.proofs.Entry as TE
 use Rattle.rules.proofs.Entry.Laws as TE′
 use Rattle.register.proofs.Rows.{R, mach, IsEntry, fits16, place16, makes, typed}
-use Rattle.register.proofs.Relend.{slice}
-use Rattle.register.proofs.Lent.{mut-own, poke-in, poke-out}
+use Rattle.lending.proofs.Relend.{slice}
+use Rattle.lending.proofs.Lent.{mut-own, poke-in, poke-out}
 use Rattle.register.proofs.entries.load.Key.{name as #load}
 use Rattle.register.proofs.entries.load as load′
 use Rattle.register.proofs.entries.load.Statement as stated

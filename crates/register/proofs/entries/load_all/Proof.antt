@@ -44,8 +44,8 @@ use Rattle.rules.specs.declared.Entry.{Entry}
 use Rattle.rules.proofs.Entry.Laws as TE′
 use Rattle.register.specs.Loading.{loadedFrom}
 use Rattle.register.proofs.Rows.{R, typed}
-use Rattle.register.proofs.Relend.{slice}
-use Rattle.register.proofs.Lent.{enters, mut-own, shr-own, mid, tests, less, less-wf}
+use Rattle.lending.proofs.Relend.{slice}
+use Rattle.lending.proofs.Lent.{enters, mut-own, shr-own, mid, tests, less, less-wf}
 use Rattle.register.proofs.Loaded.{loadedAt, front-length, loads-next}
 use Rattle.register.proofs.Calls.{Load, EntryFrom, calls-load, calls-entry-from}
 use Rattle.register.proofs.entries.load.Symbol as load-def

@@ -1,4 +1,4 @@
--- A call that takes what its caller was given, at the caller's own lifetimes. Nothing here is of this crate.
+-- A call that takes what its caller was given, at the caller's own lifetimes.
 --     calls-given      what the callee takes is `give`, and what it gives back is `back`
 --     left-given       a contract's `post` in the form that `calls-given` takes it: of a `&` slice and two `&mut` slices
 -- Assume `Given`.
@@ -22,7 +22,7 @@ use denote.Slice.{finally}
 use denote.Steps.{heard, facts}
 use denote.Triple.Walked.{says}
 use denote.Triple.Statement.{Contract}
-use Rattle.register.proofs.Lent.{Call}
+use Rattle.lending.proofs.Lent.{Call}
 
 module _ {M : Type 1} (𝓤 : URA M) where
   -- what a callee leaves: what it gives back, and φ of the machine value w

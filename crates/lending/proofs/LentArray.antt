@@ -1,4 +1,4 @@
--- The lender's side: a local array that a function lends to a call as a `&mut` slice. Nothing here is of this crate.
+-- The lender's side: a local array that a function lends to a call as a `&mut` slice.
 --     array-out        a local array, written whole, is the row of its elements
 --     array-room       the row of elements of a local array is room for the array, to be freed
 --     calls-owned      a call that the row is lent to, for a lifetime that is made for it. What else the callee takes is `give`, and what
@@ -32,7 +32,7 @@ use denote.Lend.{Held}
 use denote.Index.{row}
 use denote.Steps.{nothing}
 use denote.Triple.Statement.{Contract}
-use Rattle.register.proofs.Lent.{mut-own, LeftLent, Posted, gives, Lasting, lasting, Call, calls-row}
+use Rattle.lending.proofs.Lent.{mut-own, LeftLent, Posted, gives, Lasting, lasting, Call, calls-row}
 
 -- ---- the array
 

@@ -1,4 +1,4 @@
--- What a walk of a function that holds a lent slice is made of, one step each; it says nothing of this crate. A walk keeps a slice in
+-- What a walk of a function that holds a lent slice is made of, one step each. A walk keeps a slice in
 -- two entries at the head of its context, what it owns and the token of its lifetime, and each step leaves the two where they were, so
 -- that the places of the locals behind them do not change:
 --     poke-in, poke-out    element i of a `&mut` slice is taken out, to be read or written, and put back at a value
@@ -44,7 +44,7 @@ use denote.Index.{row, place, others, elem-out, elem-put}
 use denote.Steps.{heard, facts, owned, nothing}
 use denote.Triple.Call.{calls-at, calls-at-last}
 use denote.Triple.Statement.{Contract, Triple}
-use Rattle.register.proofs.Relend.{slice, Opened, Claim, opens, closes, lends, returns}
+use Rattle.lending.proofs.Relend.{slice, Opened, Claim, opens, closes, lends, returns}
 
 -- what follows the first part of a sequence: by this a piece of generated MIR needs no writing out
 abbrev pub tl : Body → Body
