@@ -13,7 +13,7 @@ use Rattle.rules.specs.Read.{coverAt, coverTurn, writtenAt, withCovers, memberT
 use Rattle.rules.specs.Register.{drawsFrom, drawsOf}
 use Rattle.rules.specs.Weigh.{writtenAddOn}
 use Rattle.rules.proofs.Runs.{run-on}
-use Rattle.theorems.proofs.MemberBounds.{perWord, coverWeight, fine-cover, memberWeight, fine-member}
+use Rattle.laws.proofs.MemberBounds.{perWord, coverWeight, fine-cover, memberWeight, fine-member}
 use Rattle.derivatives.specs.declared.tally.Tally.{Tally}
 use Rattle.derivatives.specs.declared.covers.OpenCredit.{OpenCredit}
 use Rattle.derivatives.specs.Gathered.{plusMember}

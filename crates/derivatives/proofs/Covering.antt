@@ -14,8 +14,8 @@ use Rattle.rules.specs.Run.{Turn, bad, some}
 use Rattle.rules.specs.Read.{lacks, stands, recordThen, coverAt, coverTurn, writtenAt}
 use Rattle.records.specs.Readable.{Readable}
 use Rattle.records.proofs.Words.{whole, record-faulty, record-good}
-use Rattle.theorems.proofs.Records.{stands-is}
-use Rattle.theorems.proofs.FactorBounds.{gain-small, loss-small, written-add-on}
+use Rattle.laws.proofs.Records.{stands-is}
+use Rattle.laws.proofs.FactorBounds.{gain-small, loss-small, written-add-on}
 use Rattle.derivatives.specs.declared.tally.Tally.{Tally}
 use Rattle.derivatives.specs.declared.covers.OpenCredit.{OpenCredit}
 use Rattle.derivatives.specs.declared.read.WrittenWords.{WrittenWords}

@@ -8,7 +8,7 @@ use Rattle.rules.specs.Book.{DerivativeSet}
 use Rattle.rules.specs.Read.{derivativeSetAt}
 use Rattle.rules.specs.Weigh.{marginOffsets, replacementOf, weightedIn}
 use Rattle.rules.proofs.Weighted.{at-most, mono-x}
-use Rattle.theorems.proofs.ItemRows.{marked, replacement-at-most, weighted-at-most}
+use Rattle.laws.proofs.ItemRows.{marked, replacement-at-most, weighted-at-most}
 use Rattle.records.specs.Sums.{SumsRoomy}
 use Rattle.derivatives.specs.declared.read.SetWords.{SetWords}
 use Rattle.derivatives.specs.declared.tally.Tally.{Tally}

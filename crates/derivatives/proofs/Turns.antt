@@ -16,10 +16,10 @@ use Rattle.rules.proofs.Runs.{FineTurn}
 use Rattle.records.specs.Readable.{Readable}
 use Rattle.records.specs.Cause.{recordCause}
 use Rattle.records.proofs.Words.{whole, record-faulty, record-good}
-use Rattle.theorems.proofs.Valid.{cause-none}
-use Rattle.theorems.proofs.Records.{stands-is}
-use Rattle.theorems.proofs.FactorBounds.{loss-small}
-use Rattle.theorems.proofs.MemberBounds.{perWord, memberWeight, fine-member}
+use Rattle.laws.proofs.Valid.{cause-none}
+use Rattle.laws.proofs.Records.{stands-is}
+use Rattle.laws.proofs.FactorBounds.{loss-small}
+use Rattle.laws.proofs.MemberBounds.{perWord, memberWeight, fine-member}
 use Rattle.derivatives.specs.declared.read.TradeWords.{TradeWords}
 use Rattle.derivatives.specs.declared.read.WrittenWords.{WrittenWords}
 use Rattle.derivatives.specs.declared.tally.Tally.{Tally}

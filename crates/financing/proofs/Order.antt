@@ -13,8 +13,8 @@ use Rattle.rules.specs.Run.{Turn, over, bad, some, Run, thenRun, runFrom, sound
 use Rattle.rules.specs.Faults.{financingTradeFault}
 use Rattle.rules.specs.Read.{lacks, recordThen, stands, lastDaysAt, financingTradeAt, financingTradeTurn, financingMemberTurn}
 use Rattle.rules.proofs.Lists.{or-left, or-right}
-use Rattle.theorems.proofs.Records.{stands-is}
-use Rattle.theorems.proofs.Valid.{cause-none}
+use Rattle.laws.proofs.Records.{stands-is}
+use Rattle.laws.proofs.Valid.{cause-none}
 use Rattle.financing.specs.Netting.{NeverFall}
 use Rattle.financing.specs.Words.{financingTradeWords, financingTradeFaultOf}
 

@@ -21,8 +21,8 @@ use Rattle.records.specs.declared.ItemStep.{ItemStep}
 use Rattle.records.specs.declared.ItemStep.the-variants.{Next}
 use Rattle.records.specs.declared.ItemStep.the-variants as item
 use Rattle.records.proofs.Words.{turn-fault, turn-on}
-use Rattle.theorems.proofs.MemberBounds.{perWord, financingWeight, financing-total, fine-financing-member}
-use Rattle.theorems.proofs.Financing.{netted-at-most}
+use Rattle.laws.proofs.MemberBounds.{perWord, financingWeight, financing-total, fine-financing-member}
+use Rattle.laws.proofs.Financing.{netted-at-most}
 use Rattle.financing.specs.declared.tally.FinancingTally.{FinancingTally}
 use Rattle.financing.specs.declared.trades.Weighed.{Weighed}
 use Rattle.financing.specs.declared.trades.Weighed.the-variants.{Whole, Refused}

@@ -13,7 +13,7 @@ use Rattle.rules.specs.Read.{lacks, stands, lastDaysAt, financingTradeAt, finan
 use Rattle.rules.proofs.Along.{Along, along-start, along-over, along-bad, along-one}
 use Rattle.records.specs.Cause.{recordCause}
 use Rattle.records.proofs.Words.{record-faulty, record-good}
-use Rattle.theorems.proofs.Records.{stands-is, lacks-room}
+use Rattle.laws.proofs.Records.{stands-is, lacks-room}
 use Rattle.financing.specs.declared.tally.FinancingTally.{FinancingTally}
 use Rattle.financing.specs.declared.trades.Weighed.the-variants.{Whole, Refused}
 use Rattle.financing.specs.Weighing.{noTally, settled, tallied, tallyFrom, weighedTo, weighedOf, tradesOf, tallySum, TallyRoomy}

@@ -14,11 +14,11 @@ use Rattle.rules.specs.Rows.{sumOver, sumsOf}
 use Rattle.rules.specs.Filing.{Outcome, early, refused, accepted, admission, outcomeOf, registerAfter, filingOf, filing}
 use Rattle.rules.proofs.Lists.{total-le-all}
 use Rattle.rules.proofs.Differences.{sub-neg}
-use Rattle.theorems.specs.Exposure.{exposureOf}
-use Rattle.theorems.proofs.Accepted.{accepted-is}
-use Rattle.theorems.proofs.ExposureSum.{exposure-row-is, exposure-is-sum}
-use Rattle.theorems.proofs.ItemBounds.{itemWeight, items-small}
-use Rattle.theorems.proofs.ItemRows.{allRows, rows-at-most, sums-total}
+use Rattle.laws.specs.Exposure.{exposureOf}
+use Rattle.laws.proofs.Accepted.{accepted-is}
+use Rattle.laws.proofs.ExposureSum.{exposure-row-is, exposure-is-sum}
+use Rattle.laws.proofs.ItemBounds.{itemWeight, items-small}
+use Rattle.laws.proofs.ItemRows.{allRows, rows-at-most, sums-total}
 use Rattle.template.specs.Sections.{SumsFit}
 use Rattle.reading.specs.declared.Admission.{Admission}
 use Rattle.leverage.specs.declared.Answer.{Answer}

@@ -18,7 +18,7 @@ use Rattle.rules.specs.Register.{blank, drawFault, drawn, drawsOver, Settled, u
 use Rattle.rules.specs.Rows.{sumsOf}
 use Rattle.rules.specs.Filing.{Outcome, early, refused, accepted, judged, recordsOutcome, admission, registerAfter}
 use Rattle.rules.proofs.Lists.{or-left, or-right}
-use Rattle.theorems.proofs.Settling.{settle-one, settle-none}
+use Rattle.laws.proofs.Settling.{settle-one, settle-none}
 use Rattle.records.specs.Readable.{Readable}
 use Rattle.reading.specs.declared.Admission.{Admission}
 use Rattle.reading.specs.declared.Admission.the-variants.{Admitted, Refused}

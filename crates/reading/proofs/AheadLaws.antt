@@ -14,9 +14,9 @@ use Rattle.rules.specs.Read.{itemTurn}
 use Rattle.rules.specs.Register.{drawsIn, drawsOver}
 use Rattle.rules.specs.Rows.{sumsOf}
 use Rattle.rules.proofs.Runs.{FineTurn, run-on}
-use Rattle.theorems.proofs.MemberBounds.{perWord}
-use Rattle.theorems.proofs.ItemBounds.{placedWeight, fine-item-turn}
-use Rattle.theorems.proofs.ItemRows.{rows-at-most}
+use Rattle.laws.proofs.MemberBounds.{perWord}
+use Rattle.laws.proofs.ItemBounds.{placedWeight, fine-item-turn}
+use Rattle.laws.proofs.ItemRows.{rows-at-most}
 use Rattle.records.specs.Sums.{plus, SumsRoomy}
 use Rattle.records.specs.Step.{plusItem}
 use Rattle.reading.specs.declared.Admission.the-variants.{Admitted, Refused}

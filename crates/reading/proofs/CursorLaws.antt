@@ -16,8 +16,8 @@ use Rattle.rules.specs.Read.{firstRecord, headOf, protectionTurn, protectionsOf
 use Rattle.rules.specs.Register.{drawsOver}
 use Rattle.rules.specs.Rows.{sumsOf}
 use Rattle.rules.proofs.Runs.{fine-run}
-use Rattle.theorems.proofs.MemberBounds.{perWord}
-use Rattle.theorems.proofs.ItemBounds.{nothing, fine-protection}
+use Rattle.laws.proofs.MemberBounds.{perWord}
+use Rattle.laws.proofs.ItemBounds.{nothing, fine-protection}
 use Rattle.derivatives.specs.declared.set.OpenSet.{OpenSet}
 use Rattle.derivatives.specs.Ahead.{newSet, SoundSet}
 use Rattle.reading.specs.declared.Admission.{Admission}

@@ -16,9 +16,9 @@ use Rattle.rules.specs.Run.{Turn, bad, some, sound}
 use Rattle.rules.specs.Read.{lacks, recordThen, stands, assetTurn, derivativeSetTurn, financingSetTurn, offBalanceTurn, itemOf, placed, itemTurn}
 use Rattle.rules.specs.Register.{drawsIn}
 use Rattle.rules.proofs.Runs.{FineTurn}
-use Rattle.theorems.proofs.Records.{stands-is, head-word}
-use Rattle.theorems.proofs.MemberBounds.{perWord}
-use Rattle.theorems.proofs.ItemBounds.{placedWeight, fine-item-turn}
+use Rattle.laws.proofs.Records.{stands-is, head-word}
+use Rattle.laws.proofs.MemberBounds.{perWord}
+use Rattle.laws.proofs.ItemBounds.{placedWeight, fine-item-turn}
 use Rattle.records.specs.declared.ItemStep.{ItemStep}
 use Rattle.records.specs.declared.ItemStep.the-variants.{Next}
 use Rattle.records.specs.declared.ItemStep.the-variants as item

@@ -13,10 +13,10 @@ use Rattle.rules.specs.Faults.{protectionFault}
 use Rattle.rules.specs.Run.{Turn, over, some, Run, thenRun, runFrom}
 use Rattle.rules.specs.Read.{lacks, recordThen, protectionAt, protectionTurn}
 use Rattle.rules.proofs.Runs.{FineTurn}
-use Rattle.theorems.proofs.Conserve.{Filled, protection-filled}
-use Rattle.theorems.proofs.Conserve
-use Rattle.theorems.proofs.MemberBounds.{perWord}
-use Rattle.theorems.proofs.ItemBounds.{nothing, fine-protection}
+use Rattle.laws.proofs.Protections.{Filled, protection-filled}
+use Rattle.laws.proofs.Protections
+use Rattle.laws.proofs.MemberBounds.{perWord}
+use Rattle.laws.proofs.ItemBounds.{nothing, fine-protection}
 use Rattle.records.proofs.Words.{turn-lacks, turn-fault, turn-on}
 use Rattle.reading.specs.declared.protections.Protections.the-variants.{Upto, Refused}
 use Rattle.reading.specs.Steps.{protectionStep, placeOf}

@@ -6,7 +6,7 @@ use lib.ListN.{length}
 use Rattle.rules.specs.declared.Sums.{Sums}
 use Rattle.rules.specs.Read.{derivativeSetAt}
 use Rattle.rules.specs.Weigh.{marginOffsets, replacementOf, weightedIn}
-use Rattle.theorems.proofs.ItemRows.{marked, replacement-at-most, weighted-at-most}
+use Rattle.laws.proofs.ItemRows.{marked, replacement-at-most, weighted-at-most}
 use Rattle.records.specs.Sums.{plus}
 use Rattle.derivatives.specs.declared.read.SetWords.{SetWords}
 use Rattle.derivatives.specs.declared.tally.Tally.{Tally}

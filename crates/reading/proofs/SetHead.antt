@@ -10,7 +10,7 @@ use Rattle.rules.specs.Book.{Member}
 use Rattle.rules.specs.Run.{Run, runFrom}
 use Rattle.rules.specs.Read.{memberTurn, derivativeSetAt, withMembers, derivativeSetTurn, placed, itemTurn}
 use Rattle.rules.specs.Register.{drawsOf}
-use Rattle.theorems.proofs.Records.{lacks-room}
+use Rattle.laws.proofs.Records.{lacks-room}
 use Rattle.records.specs.Sums.{plus}
 use Rattle.records.proofs.Words.{record-good}
 use Rattle.derivatives.specs.Words.{setCause}

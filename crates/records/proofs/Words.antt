@@ -12,7 +12,7 @@ use lib.ListN.{length}
 use Rattle.rules.specs.Word.{word, kindOf, amountsOfKind}
 use Rattle.rules.specs.Run.{Turn, bad, sound}
 use Rattle.rules.specs.Read.{lacks, recordThen, stands}
-use Rattle.theorems.proofs.Records.{lacks-room}
+use Rattle.laws.proofs.Records.{lacks-room}
 use Rattle.records.specs.Readable.{Readable}
 
 -- ---- the loop of `lacking`: i is what it has come to, and `other` what it has seen of the words behind

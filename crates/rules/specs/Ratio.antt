@@ -14,7 +14,7 @@ floor (pos a) d = pos (a / d)
 floor (negsuc a) d = negsuc (a / d)
 
 -- "basis points, 10,000 times row 20 over row 21 rounded towards minus infinity; 0 if row 21 is 0". Row 21 is never negative
--- (theorems, Exposure), so that a negative one counts as none.
+-- (laws, `exposure-is-sum`), so that a negative one counts as none.
 unfoldable pub ratioOf : (tier1 exposure : ℤ) → ℤ
 ratioOf tier1 exposure = cond (leZ exposure (pos 0)) (pos 0) (floor (pos 10000 *ℤ tier1) (natAbs exposure))
 

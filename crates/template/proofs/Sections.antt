@@ -13,7 +13,7 @@ use Rattle.rules.specs.Ratio.{tier1Of}
 use Rattle.rules.specs.Rows.{onBalance, ofDerivativeRows, ofFinancingRows, ofOffBalanceRows, exposureRow, rowsOf}
 use Rattle.rules.proofs.Differences.{Difference, of-pos, of-minus, as-difference, same, plus}
 use Rattle.rules.proofs.RatioCases.{tier1-difference}
-use Rattle.theorems.proofs.ExposureSum.{exposure-row-is}
+use Rattle.laws.proofs.ExposureSum.{exposure-row-is}
 use Rattle.template.specs.Sections.{SumsFit, countedUp, countedDown, withOnBalance, withDerivatives, withFinancing, withOffBalance, withRatio}
 use Rattle.template.proofs.Reading.{read}
 

@@ -1,14 +1,4 @@
 pub mod SamplesHold
-pub mod Accepted
-pub mod Financing
-pub mod Valid
-pub mod Settling
 pub mod Conserve
-pub mod FactorBounds
-pub mod ExposureSum
-pub mod Records
-pub mod MemberBounds
-pub mod ItemBounds
-pub mod ItemRows
 pub mod Signed
 pub mod RowBounds

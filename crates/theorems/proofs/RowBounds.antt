@@ -19,12 +19,12 @@ use Rattle.rules.specs.Ratio.{tier1Of, ratioOf}
 use Rattle.rules.specs.Rows.{minus, sumOver, sumsOf, onBalance, ofDerivativeRows, ofFinancingRows, ofOffBalanceRows, exposureRow, rowsOf}
 use Rattle.rules.proofs.Lists.{Every, total-le-all, or-left}
 use Rattle.rules.proofs.Lists
-use Rattle.theorems.specs.Exposure.{exposureOf}
+use Rattle.laws.specs.Exposure.{exposureOf}
 use Rattle.theorems.specs.Claims.{AllRowsFit}
-use Rattle.theorems.proofs.Accepted.{Accepted, accepted-is}
-use Rattle.theorems.proofs.FactorBounds.{gain-small, loss-small}
-use Rattle.theorems.proofs.ItemBounds.{itemWeight, items-small}
-use Rattle.theorems.proofs.ItemRows.{allRows, rows-at-most, exposure-at-most, sums-total}
+use Rattle.laws.proofs.Accepted.{Accepted, accepted-is}
+use Rattle.laws.proofs.FactorBounds.{gain-small, loss-small}
+use Rattle.laws.proofs.ItemBounds.{itemWeight, items-small}
+use Rattle.laws.proofs.ItemRows.{allRows, rows-at-most, exposure-at-most, sums-total}
 use Rattle.theorems.proofs.Signed.{mag-at-most, minus-at-most, sum-at-most, tier1-at-most, ratio-at-most}
 
 -- ---- a signed number of at most some size

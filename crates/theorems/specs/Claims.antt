@@ -10,19 +10,12 @@ use lib.Signed.{mag}
 use Rattle.rules.specs.declared.Entry.{Entry}
 use Rattle.rules.specs.Book.{Protection, Cover, Member, trade, written, Item, asset, derivatives, financing, offBalance, Placed, total}
 use Rattle.rules.specs.Read.{headOf, protectionsOf}
-use Rattle.rules.specs.Rows.{sumOver, sumsOf, exposureRow, rowsOf}
+use Rattle.rules.specs.Rows.{sumOver, sumsOf, rowsOf}
 use Rattle.rules.specs.Register.{blank, available}
 use Rattle.rules.specs.Filing.{outcomeOf, accepted}
-use Rattle.theorems.specs.Exposure.{exposureOf}
+use Rattle.laws.specs.Exposure.{exposureOf}
 
--- ---- row 21
-
--- row 21 is the sum of the items' exposures, and so is never negative
-abbrev pub ExposureIsSum : Type 0
-ExposureIsSum =
-    (ws : List ℕ) (rows entries : ℕ) (items : List Placed) (left : List Entry)
-    → outcomeOf ws rows entries ≡ accepted items left
-    → exposureRow (sumsOf (headOf ws .bands) items) ≡ pos (sumOver (exposureOf (headOf ws .bands)) items)
+-- ---- the rows
 
 -- every row, and three times row 21, fits a signed number of 64 bits: `mag` is n of n and of -(n + 1)
 pub record RowsFit (ws : List ℕ) (items : List Placed) : Type 0 where

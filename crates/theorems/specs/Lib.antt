@@ -1,3 +1,2 @@
 pub mod Samples
-pub mod Exposure
 pub mod Claims

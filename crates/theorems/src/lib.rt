@@ -1,2 +1,2 @@
-// Theorems about the definitions of the crate `rules`, with no code: the samples of document 01 (specs/Samples), and in proofs/ the sum
-// of the items' exposures, the bounds of the rows and the conservation of protection.
+// Theorems about the definitions of the crate `rules` that no crate with code cites: the samples of document 01 (specs/Samples), the
+// bounds of the rows and the conservation of protection (specs/Claims).

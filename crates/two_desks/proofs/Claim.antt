@@ -20,9 +20,9 @@ use Rattle.rules.specs.TwoDesks.{MoreRecognised, WithinShare, AllWithinShare, N
 use Rattle.rules.proofs.Lists.{Pairs}
 use Rattle.rules.proofs.Weighted.{two-fifths, five-at-most}
 use Rattle.rules.proofs.Ratios.{ratio-falls, verdict-kept}
-use Rattle.theorems.proofs.Accepted.{accepted-is, Numbered, numbered}
-use Rattle.theorems.proofs.Accepted
-use Rattle.theorems.proofs.ExposureSum.{exposure-is-sum}
+use Rattle.laws.proofs.Accepted.{accepted-is, Numbered, numbered}
+use Rattle.laws.proofs.Accepted
+use Rattle.laws.proofs.ExposureSum.{exposure-is-sum}
 use Rattle.two_desks.proofs.Related.{MorePlaced}
 use Rattle.two_desks.proofs.Plain.{head-same}
 use Rattle.two_desks.proofs.Less.{exposure-less}

@@ -14,8 +14,8 @@ use Rattle.rules.specs.Rows.{AssetRows, assetRows, tallyIn, sumOver}
 use Rattle.rules.proofs.Lists.{Pairs, pairs-total}
 use Rattle.rules.proofs.Lists
 use Rattle.rules.proofs.Weighted.{at-most}
-use Rattle.theorems.proofs.Financing.{below-le}
-use Rattle.theorems.specs.Exposure.{exposureOf, derivativeExposure, financingExposure}
+use Rattle.laws.proofs.Financing.{below-le}
+use Rattle.laws.specs.Exposure.{exposureOf, derivativeExposure, financingExposure}
 use Rattle.two_desks.proofs.Related.{Kept, MoreAsset, MoreSet, MoreTrade, MoreFinancing, MoreItem, MorePlaced}
 use Rattle.two_desks.proofs.Related
 

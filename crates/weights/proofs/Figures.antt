@@ -12,7 +12,7 @@ use mir.Facts.{and-yes}
 use lib.Dec.{T, eqb, leb, ltb, eqb·suc-zero, leb·zero, leb·suc-zero, leb·suc-suc, ltb→lt}
 use lib.ListN.{getD, length}
 use Rattle.rules.specs.Factors.{conversions, conversionAt, conversionOf}
-use Rattle.theorems.proofs.FactorBounds.{conversion-at-most}
+use Rattle.laws.proofs.FactorBounds.{conversion-at-most}
 use Rattle.words.proofs.Padded.{padded}
 use Rattle.weights.specs.Figures.{conversionFigures}
 

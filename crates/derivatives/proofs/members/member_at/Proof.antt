@@ -1,4 +1,4 @@
-use Rattle.theorems.proofs.Records.{stands-there}
+use Rattle.laws.proofs.Records.{stands-there}
 use Rattle.derivatives.proofs.Turns.{none-beyond, none-there}
 use borrow.Author.Needs.{needs}
 use Rattle.derivatives.proofs.members.member_at.Statement.{statement}

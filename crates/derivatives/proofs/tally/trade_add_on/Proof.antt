@@ -1,6 +1,6 @@
 use Rattle.rules.specs.Read.{tradeAt}
 use Rattle.rules.specs.Weigh.{tradeAddOn}
-use Rattle.theorems.proofs.FactorBounds.{factor-small}
+use Rattle.laws.proofs.FactorBounds.{factor-small}
 use Rattle.derivatives.proofs.AddOns.{two-factors, three-factors}
 use native.Mathlib.Omega.{arith}
 use borrow.Author.Needs.{needs}

@@ -5,7 +5,7 @@ use Rattle.rules.specs.Word.{bitOf, sizeOf}
 use Rattle.rules.specs.Factors.{creditFactor}
 use Rattle.rules.specs.Read.{writtenAt}
 use Rattle.rules.specs.Weigh.{writtenAddOn}
-use Rattle.theorems.proofs.FactorBounds.{credit-at-most}
+use Rattle.laws.proofs.FactorBounds.{credit-at-most}
 use Rattle.derivatives.proofs.AddOns.{credit-product, bounded-is}
 use borrow.Author.Needs.{needs}
 use Rattle.derivatives.proofs.tally.written_add_on.Statement.{statement}

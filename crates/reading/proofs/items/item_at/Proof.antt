@@ -3,7 +3,7 @@ use mathlib.Core.Path.{_≡_}
 use mathlib.Core.Bool.{true}
 use native.Mathlib.Omega.{arith}
 use Rattle.rules.specs.Read.{stands}
-use Rattle.theorems.proofs.Records.{stands-there}
+use Rattle.laws.proofs.Records.{stands-there}
 use Rattle.reading.proofs.ItemLaws.{met}
 use Rattle.reading.proofs.HeadLaws.{beyond, no-item}
 use Rattle.reading.proofs.AnswerLaws.{set-answers, end-answers}

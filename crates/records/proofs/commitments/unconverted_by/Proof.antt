@@ -1,7 +1,7 @@
 use native.Mathlib.Omega.{arith}
 use Rattle.rules.specs.Word.{fieldOf}
 use Rattle.rules.specs.Read.{offBalanceAt}
-use Rattle.theorems.proofs.FactorBounds.{conversion-at-most}
+use Rattle.laws.proofs.FactorBounds.{conversion-at-most}
 use Rattle.records.proofs.Good.{unconverted-small}
 use borrow.Author.Needs.{needs}
 use Rattle.records.proofs.commitments.unconverted_by.Statement.{statement}

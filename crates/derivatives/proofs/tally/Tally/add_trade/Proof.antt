@@ -1,7 +1,7 @@
 use native.Mathlib.Nat.{add-zero}
 use native.Mathlib.Omega.{arith}
 use Rattle.rules.specs.Read.{tradeAt}
-use Rattle.theorems.proofs.FactorBounds.{trade-add-on}
+use Rattle.laws.proofs.FactorBounds.{trade-add-on}
 use Rattle.derivatives.specs.Words.{tradeOf}
 use borrow.Author.Needs.{needs}
 use Rattle.derivatives.proofs.tally.Tally.add_trade.Statement.{statement}

@@ -1,6 +1,6 @@
 use native.Mathlib.Omega.{arith}
 use Rattle.rules.specs.Read.{writtenAt}
-use Rattle.theorems.proofs.FactorBounds.{written-add-on}
+use Rattle.laws.proofs.FactorBounds.{written-add-on}
 use Rattle.derivatives.specs.Words.{writtenOf}
 use Rattle.derivatives.proofs.AddOns.{kept-under}
 use borrow.Author.Needs.{needs}

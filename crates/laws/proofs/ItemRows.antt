@@ -13,11 +13,11 @@ use Rattle.rules.specs.Weigh.{Tally, tallyOf, netOf, marginOffsets, replacement
 use Rattle.rules.specs.Rows.{AssetRows, assetRows, tallyIn, keptWeighted, row1, row2, row4, row5, row6, row7, row8, row9, row10, row12, row13, row14, row15, row17, row18, sumOver}
 use Rattle.rules.proofs.Lists.{total-le-all}
 use Rattle.rules.proofs.Weighted.{at-most}
-use Rattle.theorems.specs.Exposure.{exposureOf}
-use Rattle.theorems.proofs.Financing.{netted-at-most}
-use Rattle.theorems.proofs.FactorBounds.{conversion-at-most}
-use Rattle.theorems.proofs.MemberBounds.{members-total, financing-total}
-use Rattle.theorems.proofs.ItemBounds.{itemWeight}
+use Rattle.laws.specs.Exposure.{exposureOf}
+use Rattle.laws.proofs.Financing.{netted-at-most}
+use Rattle.laws.proofs.FactorBounds.{conversion-at-most}
+use Rattle.laws.proofs.MemberBounds.{members-total, financing-total}
+use Rattle.laws.proofs.ItemBounds.{itemWeight}
 
 -- ---- a part by a mark: with it, without it, and both
 

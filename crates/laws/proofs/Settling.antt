@@ -17,7 +17,7 @@ use Rattle.rules.specs.Weigh.{writtenIn, coversIn}
 use Rattle.rules.specs.Register.{blank, drawsFrom, drawsOf, drawsIn, drawsOver, unfitFor, drawFault, drawnFrom, drawn, settled, ifFit, settle}
 use Rattle.rules.proofs.Lists.{Every, or-left, or-right}
 use Rattle.rules.proofs.Lists
-use Rattle.theorems.proofs.Valid.{cause-none}
+use Rattle.laws.proofs.Valid.{cause-none}
 
 -- ---- one draw, and all
 

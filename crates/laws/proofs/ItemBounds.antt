@@ -15,8 +15,8 @@ use Rattle.rules.specs.Faults.{protectionFault, assetFault, derivativeSetFault,
 use Rattle.rules.specs.Read.{headOf, firstRecord, protectionAt, protectionTurn, protectionsOf, assetAt, assetTurn, memberTurn, derivativeSetAt, withMembers, derivativeSetTurn, financingMemberTurn, financingSetAt, withTrades, financingSetTurn, offBalanceAt, offBalanceTurn, itemOf, placed, endFault, itemTurn, itemsOf}
 use Rattle.rules.specs.Rows.{sumOver}
 use Rattle.rules.proofs.Runs.{FineTurn, FineRun, fine-run}
-use Rattle.theorems.proofs.Records.{fine-if, fine-sound, fine-record}
-use Rattle.theorems.proofs.MemberBounds.{perWord, memberWeight, financingWeight, fine-member, fine-financing-member}
+use Rattle.laws.proofs.Records.{fine-if, fine-sound, fine-record}
+use Rattle.laws.proofs.MemberBounds.{perWord, memberWeight, financingWeight, fine-member, fine-financing-member}
 
 -- ---- items
 

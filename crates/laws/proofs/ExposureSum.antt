@@ -16,13 +16,12 @@ use Rattle.rules.proofs.Lists.{Every, total-le}
 use Rattle.rules.proofs.Lists
 use Rattle.rules.proofs.Weighted.{mono-x}
 use Rattle.rules.proofs.Differences.{Difference, of-pos, of-minus, as-difference, same, plus}
-use Rattle.theorems.specs.Exposure.{exposureOf}
-use Rattle.theorems.specs.Claims.{ExposureIsSum}
-use Rattle.theorems.proofs.Accepted.{Accepted, accepted-is}
-use Rattle.theorems.proofs.Valid.{ValidTrade, ValidItem, ValidPlaced, valid-items}
-use Rattle.theorems.proofs.Settling.{CoversWithin, all-within, book-within}
-use Rattle.theorems.proofs.Financing.{netted-at-most}
-use Rattle.theorems.proofs.FactorBounds.{conversion-at-most}
+use Rattle.laws.specs.Exposure.{exposureOf, ExposureIsSum}
+use Rattle.laws.proofs.Accepted.{Accepted, accepted-is}
+use Rattle.laws.proofs.Valid.{ValidTrade, ValidItem, ValidPlaced, valid-items}
+use Rattle.laws.proofs.Settling.{CoversWithin, all-within, book-within}
+use Rattle.laws.proofs.Financing.{netted-at-most}
+use Rattle.laws.proofs.FactorBounds.{conversion-at-most}
 
 -- ---- what an item adds to the rows that count up, and to those that count down
 

@@ -13,8 +13,8 @@ use Rattle.rules.specs.Faults.{tradeFault, writtenFault, coverFault, financingT
 use Rattle.rules.specs.Read.{stands, coverAt, coverTurn, writtenAt, withCovers, writtenTurn, tradeAt, tradeTurn, memberTurn, lastDaysAt, financingTradeAt, financingTradeTurn, financingMemberTurn}
 use Rattle.rules.specs.Weigh.{gainIn, addOnIn, writtenIn, coversIn}
 use Rattle.rules.proofs.Runs.{FineTurn, FineRun, fine-run}
-use Rattle.theorems.proofs.Records.{fine-kind, fine-record}
-use Rattle.theorems.proofs.FactorBounds.{gain-small, trade-add-on, written-add-on}
+use Rattle.laws.proofs.Records.{fine-kind, fine-record}
+use Rattle.laws.proofs.FactorBounds.{gain-small, trade-add-on, written-add-on}
 
 abbrev pub perWord : ℕ
 perWord = 2 ^ 41

@@ -1,11 +1,17 @@
--- What an item adds to row 21, in thousandths of the unit, written by what stays of it. Assumes nothing.
+-- What an item adds to row 21, in thousandths of the unit, written by what stays of it; and row 21 as their sum. Assumes nothing.
 use Prim.Native.Nat.{ℕ, _+_, _-_, _*_}
 use mathlib.Core.Bool.{cond}
+use mathlib.Core.Path.{_≡_}
+use mathlib.Core.List.{List}
+use lib.IntN.{pos}
 use Rattle.rules.specs.declared.Bands.{Bands}
 use Rattle.rules.specs.Factors.{conversionOf}
-use Rattle.rules.specs.Book.{DerivativeSet, FinancingTrade, FinancingSet, Item, asset, derivatives, financing, offBalance, total}
+use Rattle.rules.specs.Book.{DerivativeSet, FinancingTrade, FinancingSet, Item, asset, derivatives, financing, offBalance, total, Placed}
 use Rattle.rules.specs.Weigh.{replacementOf, marginOffsets, writtenIn, coversIn, cashNetted, excessOf}
-use Rattle.rules.specs.Rows.{assetRows, tallyIn, keptWeighted}
+use Rattle.rules.specs.Rows.{assetRows, tallyIn, keptWeighted, sumOver, sumsOf, exposureRow}
+use Rattle.rules.specs.declared.Entry.{Entry}
+use Rattle.rules.specs.Read.{headOf}
+use Rattle.rules.specs.Filing.{outcomeOf, accepted}
 
 -- replacement and the weighted add-on that is kept in, unless the client leg is exempt; collateral posted; margin paid, unless it is
 -- offset; and what the covers leave of the written notional less its loss
@@ -28,3 +34,10 @@ exposureOf bands (asset a) = 1000 * (assetRows a .carried - assetRows a .deducte
 exposureOf bands (derivatives s) = derivativeExposure bands s
 exposureOf bands (financing s) = financingExposure s
 exposureOf bands (offBalance o) = conversionOf (o .class) (o .committed) * o .notional
+
+-- row 21 is the sum of the items' exposures, and so is never negative
+abbrev pub ExposureIsSum : Type 0
+ExposureIsSum =
+    (ws : List ℕ) (rows entries : ℕ) (items : List Placed) (left : List Entry)
+    → outcomeOf ws rows entries ≡ accepted items left
+    → exposureRow (sumsOf (headOf ws .bands) items) ≡ pos (sumOver (exposureOf (headOf ws .bands)) items)

@@ -1,0 +1,11 @@
+pub mod Accepted
+pub mod Financing
+pub mod Valid
+pub mod Settling
+pub mod Protections
+pub mod FactorBounds
+pub mod ExposureSum
+pub mod Records
+pub mod MemberBounds
+pub mod ItemBounds
+pub mod ItemRows
