@@ -1,6 +1,1 @@
-pub mod Loads
-pub mod StageLaws
-pub mod FilingLaws
-pub mod CaseLaws
-pub mod LeverageCalls
 pub mod PackLaws

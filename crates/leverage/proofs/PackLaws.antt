@@ -6,9 +6,10 @@ use native.Mathlib.Omega.{arith}
 use lib.IntN.{ℤ}
 use Rattle.rules.specs.declared.Entry.{Entry}
 use Rattle.rules.specs.Filing.{Filing}
-use Rattle.leverage.specs.declared.Answer.{Answer}
-use Rattle.leverage.specs.declared.Answer.the-variants.{Refused, Accepted}
-use Rattle.leverage.specs.Answers.{filed, packed, packedAnswer}
+use Rattle.filing.specs.declared.Answer.{Answer}
+use Rattle.filing.specs.declared.Answer.the-variants.{Refused, Accepted}
+use Rattle.filing.specs.Answers.{filed}
+use Rattle.leverage.specs.Packed.{packed, packedAnswer}
 
 -- what a filing says of the packed answer, the rows and the register
 pub unpacked : (r : Answer) (rows : List ℤ) (register : List Entry) (f : Filing) → filed r rows register ≡ f → (packedAnswer r ≡ packed f) × ((rows ≡ f .rows) × (register ≡ f .register))

@@ -1,11 +1,11 @@
 // The entry point for C: a slice passes as a pointer and a length.
-use crate::Answer;
-use crate::file::file;
+use filing::Answer;
+use filing::file::file;
 use rules::Entry;
 use rules::verdicts;
 ghost use mathlib.Core.Path.{_≡_};
 ghost use Rattle.rules.specs.Filing.{filing};
-ghost use Rattle.leverage.specs.Answers.{packed, packedAnswer};
+ghost use Rattle.leverage.specs.Packed.{packed, packedAnswer};
 
 // The verdict of a refused book, in its place.
 const REFUSED: u64 = 256 * (verdicts::REFUSED as u64);

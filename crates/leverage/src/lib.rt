@@ -1,14 +1,3 @@
-// The filing of a book: `file` answers number, place and verdict, and leaves the rows and the register as document 01 says.
-pub mod admit;
-pub mod alone;
-mod early;
+// The archive, libleverage.a: what callers in C are given, and nothing else. `rt staticlib` exports the functions of one crate only, so
+// every export stands here, whichever crate does the work.
 pub mod export;
-pub mod file;
-mod report;
-mod stages;
-
-// Refused with a number at a place, or accepted with a verdict.
-pub enum Answer {
-    Refused { number: u32, place: usize },
-    Accepted(u32),
-}

@@ -1,6 +1,6 @@
 // Prints the template of the book on standard input (document 01, "The printing program").
-use leverage::Answer;
-use leverage::alone::file_alone;
+use filing::Answer;
+use filing::alone::file_alone;
 use libc::STDIN_FILENO;
 use libc::STDOUT_FILENO;
 use rules::limits;

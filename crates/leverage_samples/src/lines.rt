@@ -1,5 +1,5 @@
 // The lines that are written.
-use leverage::Answer;
+use filing::Answer;
 use libc::STDOUT_FILENO;
 use rules::causes;
 use rules::verdicts;

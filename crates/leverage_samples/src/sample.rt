@@ -1,6 +1,6 @@
 // A book in the file: how many rows are lent, how many words the book has, how many of these follow, and these. The others are 0.
 use crate::lines::print_line;
-use leverage::alone::file_alone;
+use filing::alone::file_alone;
 use streams::gather;
 use streams::word_of;
 ghost use Prim.Native.Nat.{_*_, _≤_};

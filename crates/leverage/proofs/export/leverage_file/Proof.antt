@@ -44,18 +44,19 @@ use Rattle.rules.specs.Filing.{filing}
 use Rattle.register.proofs.Rows.{R}
 use Rattle.lending.proofs.Relend.{slice}
 use Rattle.lending.proofs.Lent.{enters, mut-own, shr-own, mid, left, calls-plain}
-use Rattle.leverage.specs.declared.Answer.{Answer}
-use Rattle.leverage.specs.Answers.{filed, packed, packedAnswer}
-use Rattle.leverage.proofs.Answer as TN
-use Rattle.leverage.proofs.Answer.Laws as TN′
-use Rattle.leverage.proofs.LeverageCalls.{mach-answer, IsAnswer, answer-makes}
+use Rattle.filing.specs.declared.Answer.{Answer}
+use Rattle.filing.specs.Answers.{filed}
+use Rattle.leverage.specs.Packed.{packed, packedAnswer}
+use Rattle.filing.proofs.Answer as TN
+use Rattle.filing.proofs.Answer.Laws as TN′
+use Rattle.filing.proofs.FilingCalls.{mach-answer, IsAnswer, answer-makes}
 use denote.Triple.Clauses.{Lasts}
 use Rattle.leverage.proofs.PackLaws.{unpacked}
 use Rattle.lending.proofs.GivenAway.{Gone, calls-given, left-given}
-use Rattle.leverage.proofs.file.file as filed′
-use Rattle.leverage.proofs.file.file.Symbol as file-def
-use Rattle.leverage.proofs.file.file.Symbol.{name as #file}
-use Rattle.leverage.proofs.file.file.Met as file-thm
+use Rattle.filing.proofs.file.file as filed′
+use Rattle.filing.proofs.file.file.Symbol as file-def
+use Rattle.filing.proofs.file.file.Symbol.{name as #file}
+use Rattle.filing.proofs.file.file.Met as file-thm
 use Rattle.leverage.proofs.export.pack as pack′
 use Rattle.leverage.proofs.export.pack.Symbol as pack-def
 use Rattle.leverage.proofs.export.pack.Symbol.{name as #pack}
@@ -235,5 +236,5 @@ leverage-file-spec 𝓤 H 𝓜 𝓖 𝓡 =
     entered 𝓤 H (tripleOf 𝓤 H (𝓖 .A) export′.signature (export′.spec 𝓤 H (𝓖 .A) (𝓜 .mem) (𝓡 .run)))
     (tables 𝓤 H 𝓜 𝓡 code.env .C) (tables 𝓤 H 𝓜 𝓡 code.env .Λ) #export code.function (code.unfolded 𝓤 H 𝓜 𝓡)
     (meets 𝓤 H (𝓖 .A) (givenOf 𝓤 H 𝓜 𝓖) (𝓜 .mem) (𝓡 .run) (tablesOf 𝓤 H 𝓜 (tables 𝓤 H 𝓜 𝓡 code.env))
-    (cited 𝓤 H (File 𝓤 H (𝓖 .A) (𝓜 .mem) (𝓡 .run)) 𝓜 𝓡 code.env #file file-def.routine code.calls-leverage·file·file (file-thm.met 𝓤 H 𝓜 𝓖 𝓡))
+    (cited 𝓤 H (File 𝓤 H (𝓖 .A) (𝓜 .mem) (𝓡 .run)) 𝓜 𝓡 code.env #file file-def.routine code.calls-filing·file·file (file-thm.met 𝓤 H 𝓜 𝓖 𝓡))
     (cited 𝓤 H (Pack 𝓤 H (𝓖 .A) (𝓜 .mem) (𝓡 .run)) 𝓜 𝓡 code.env #pack pack-def.routine code.calls-leverage·export·pack (pack-thm.met 𝓤 H 𝓜 𝓖 𝓡)))

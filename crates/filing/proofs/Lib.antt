@@ -1,0 +1,5 @@
+pub mod Loads
+pub mod StageLaws
+pub mod FilingLaws
+pub mod CaseLaws
+pub mod FilingCalls
