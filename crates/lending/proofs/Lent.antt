@@ -175,7 +175,7 @@ module _ {M : Type 1} {𝓤 : URA M} {H : Heap 𝓤} {A : Atoms 𝓤} {K : Type 
 
 module _ {M : Type 1} {𝓤 : URA M} {H : Heap 𝓤} {A : Atoms 𝓤} {K : Type 0} {W : Given 𝓤 H A} {E : Env 𝓤 H} {xs : List Operand} {G : Goal 𝓤 H} {after : Val → Goal 𝓤 H} where
   -- what the callee asks is at hand; what it leaves comes in its place
-  calls-giving : {Γ : List (Item 𝓤)} → K → (c : Contract 𝓤) → Call K W E xs c G after → (x : c .Ghost) {X : Type 0} (known : Val → X → Type 0) (held : X → Item 𝓤)
+  pub calls-giving : {Γ : List (Item 𝓤)} → K → (c : Contract 𝓤) → Call K W E xs c G after → (x : c .Ghost) {X : Type 0} (known : Val → X → Type 0) (held : X → Item 𝓤)
       → ((w : Val) → ent 𝓤 (c .post x w) (mean 𝓤 H A (Gives 𝓤 (known w) held))) → Opds K W (raw (c .pre x) ∷ Γ) E xs (c .args x)
       → ((w : Val) (r : X) → known w r → Seq K W (held r ∷ Γ) (after w)) → Seq K W (raw (c .pre x) ∷ Γ) G
   calls-giving t c cl x known held post os k = cl .rule x os (λ w. use1 W (Gives 𝓤 (known w) held) (post w) $ await t (cl .then w) $ pick t (λ r. learn t (λ is. k w r is)))

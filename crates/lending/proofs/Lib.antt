@@ -1,5 +1,5 @@
 pub mod Known
 pub mod Relend
 pub mod Lent
-pub mod LentArray
 pub mod GivenAway
+pub mod LentArray

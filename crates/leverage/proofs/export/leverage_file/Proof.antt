@@ -19,7 +19,7 @@ use ghost.Atoms.{Atoms, sem}
 use contract.Monad.{Fun}
 use contract.Running.{givenOf, tables, tablesOf}
 use contract.Lifetimes.{AllOutlive}
-use types.Kit.{Given, Sq, atRet, post, runs, ‵, _⊛_, ⋆, _$_, _∵_, !, qed, by, move, keep, split, join, rewrite, fsplit, fjoin, suffices, frame, done}
+use types.Kit.{Given, Item, Sq, atRet, post, runs, ‵, _⊛_, ⋆, _$_, _∵_, !, qed, by, move, keep, split, split3, join, rewrite, fsplit, fjoin, suffices, frame, done}
 use types.Run.{look, init, forget, stop, hop, fld, from, load, addr, and-then, no-more, assigns, land, returns, alloc1, alloc0, params1, pass1, pass0, free1, free0}
 use types.Part.{agg, whole, sub, look-in}
 use sound.WpLaws.{FmC, fmOf, WpFn-mono}
@@ -28,7 +28,7 @@ use denote.Laws.{Is}
 use denote.Plain.{uint-makes}
 use denote.Builtin.{u32, i64, u64}
 use denote.Ref.{RefT}
-use denote.Slice.{sliceTy, sliceVal, MutSlice, ShrSlice, Room, slice-vals, mut-slice-tells, shr-slice-tells}
+use denote.Slice.{sliceTy, sliceVal, MutSlice, ShrSlice, Room, finally, slice-vals, mut-slice-tells, shr-slice-tells}
 use denote.Steps.{owned, nothing, only}
 use denote.Triple.Entry.{onEntry}
 use denote.Triple.Spec.{Meets, tripleOf}
@@ -51,7 +51,8 @@ use Rattle.filing.proofs.Answer.Laws as TN′
 use Rattle.filing.proofs.FilingCalls.{mach-answer, IsAnswer, answer-makes, rows-ref, rows-param}
 use denote.Triple.Clauses.{Lasts}
 use Rattle.leverage.proofs.PackLaws.{unpacked}
-use Rattle.lending.proofs.GivenAway.{Gone, calls-given, left-given}
+use Rattle.lending.proofs.GivenAway.{Gone, calls-given, left-three}
+use Rattle.lending.proofs.Known.{told-case, known-case}
 use Rattle.filing.proofs.file.file as filed′
 use Rattle.filing.proofs.file.file.Symbol as file-def
 use Rattle.filing.proofs.file.file.Symbol.{name as #file}
@@ -116,17 +117,17 @@ module _ {M : Type 1} (𝓤 : URA M) (H : Heap 𝓤) (A : Atoms 𝓤) (W : Given
   Given-away = fsep (fsep (flft κ₀ q₀) (fsep (flft κ₁ q₁) (flft κ₂ q₂)))
       (fsep (shr-own u32 (named 0) κ₀ γ₀ b₀ o₀ (length ws) ws) (fsep (mut-own i64 (named 1) κ₁ γ₁ b₁ o₁ m rows) (mut-own R (named 2) κ₂ γ b o n ys)))
 
-  abbrev back : Answer × (List ℤ × List Entry) → Fml
-  back = Gone i64 R κ₀ q₀ κ₁ q₁ κ₂ q₂ γ₁ γ
+  abbrev back : (Answer × List ℤ) × List Entry → Item 𝓤
+  back x = ‵ (flft κ₂ q₂) ⊛ ‵ (finally R γ (x .1)) ⊛ ‵ (Gone i64 κ₀ q₀ κ₁ q₁ γ₁ (x .0))
 
   exits : (p : ℕ) (x : Answer) (us : List ℤ) (zs : List Entry) → p < 2 ^ 64 → length us ≡ m → length zs ≡ n → (p ≡ packed (filing ws rows ys)) × ((us ≡ filing ws rows ys .rows) × (zs ≡ filing ws rows ys .register))
-      → ent 𝓤 (⋆ 𝓤 H A (‵ (back (x, (us, zs))) ∷ [])) (Post (vint w64 p))
+      → ent 𝓤 (⋆ 𝓤 H A (back ((x, us), zs) ∷ [])) (Post (vint w64 p))
   exits p x us zs fits u-len z-len e =
-      qed W (‵ (back (x, (us, zs))) ∷ []) ∵
+      qed W (back ((x, us), zs) ∷ []) ∵
       suffices ! _ (ends-at 𝓤 H A export′.ended stayed (export′.clauses 𝓤 H A mem run) W (((κ₀, (κ₁, (κ₂, tt))), (q₀, (q₁, (q₂, tt))), bounds, a, vals), tt) (vint w64 p) p (tt, (us, (zs, tt))) (tt, (u-len, (z-len, tt)))) $ says ! e $
-      fsplit ! $ fsplit ! $ move ! (1 ∷ []) $ fsplit ! $ move ! (3 ∷ []) $ fsplit ! $
-      -- [the rows; the register; κ₁'s token; κ₂'s; κ₀'s]
-      nothing ! $ move ! (4 ∷ 0 ∷ []) $ join ! $ move ! (3 ∷ 0 ∷ []) $ join ! $ move ! (3 ∷ 0 ∷ []) $ join ! $ frame ! $
+      split3 ! $ move ! (2 ∷ []) $ fsplit ! $ fsplit ! $
+      -- [κ₀'s token; κ₁'s; the rows; κ₂'s; the register]
+      nothing ! $ move ! (4 ∷ 0 ∷ []) $ join ! $ move ! (2 ∷ 0 ∷ []) $ join ! $ move ! (1 ∷ 0 ∷ []) $ join ! $ frame ! $
       nothing ! $ move ! (2 ∷ 0 ∷ []) $ fjoin ! $ move ! (1 ∷ 0 ∷ []) $ fjoin ! $ nothing ! $ fjoin ! $ frame ! $
       owned ! u64 (Is u64) (uint-makes 𝓤 H A W w64) p _ (refl, fits) $ done !
 
@@ -165,21 +166,21 @@ module _ {M : Type 1} (𝓤 : URA M) (H : Heap 𝓤) (A : Atoms 𝓤) (W : Given
     begins =
         assigns ! (addr ! (from ! (fld ! refl (hop ! (look-in ! 13 (sub ! 0 refl (whole !))) (stop !))))) (from ! (stop !)) (init ! 7 refl (tt, tt)) $ assigns ! (agg ! (and-then ! (load ! (from ! (stop !)) (look ! 7 refl)) (and-then ! (load ! (from ! (fld ! refl (stop !))) (look-in ! 13 (sub ! 1 refl (whole !)))) (no-more !)))) (from ! (stop !)) (init ! 5 refl (tt, (tt, (record { fits = rows-room .0 }, tt)))) $
         assigns ! (addr ! (from ! (fld ! refl (hop ! (look-in ! 11 (sub ! 0 refl (whole !))) (stop !))))) (from ! (stop !)) (init ! 3 refl (tt, tt)) $ assigns ! (agg ! (and-then ! (load ! (from ! (stop !)) (look ! 3 refl)) (and-then ! (load ! (from ! (fld ! refl (stop !))) (look-in ! 11 (sub ! 1 refl (whole !)))) (no-more !)))) (from ! (stop !)) (init ! 1 refl (tt, (tt, (record { fits = room .0 }, tt)))) $
-        calls-given ! (File 𝓤 H A mem run) (mid ! fm met-file) to-file Given-away file-pre back
-        (λ x u. ((length (x .1 .0) ≡ m) × (length (x .1 .1) ≡ n)) × (Is TN.the-row (x .0) (u ∷ []) × (filed (x .0) (x .1 .0) (x .1 .1) ≡ filing ws rows ys)))
-        (λ u. left-given 𝓤 H A W TN.the-row i64 R κ₀ q₀ κ₁ q₁ κ₂ q₂ γ₁ γ m n (Lasts filed′.ended (κ₀, (κ₁, (κ₂, tt))) a) (λ f. f .1 .0) (λ f. f .1 .1 .0) (λ x us zs. filed x us zs ≡ filing ws rows ys) u)
+        calls-given ! (File 𝓤 H A mem run) (mid ! fm met-file) to-file Given-away file-pre
+        (λ u (x : (Answer × List ℤ) × List Entry). (length (x .1) ≡ n) × ((length (x .0 .1) ≡ m) × (Is TN.the-row (x .0 .0) (u ∷ []) × (filed (x .0 .0) (x .0 .1) (x .1) ≡ filing ws rows ys)))) back
+        (λ u. left-three 𝓤 H A W TN.the-row i64 R κ₀ q₀ κ₁ q₁ γ₁ m κ₂ q₂ γ n (Lasts filed′.ended (κ₀, (κ₁, (κ₂, tt))) a) (λ f. f .1 .0) (λ f. f .1 .1 .0) (λ x us zs. filed x us zs ≡ filing ws rows ys) u)
         (and-then ! (load ! (from ! (stop !)) (look ! 15 refl)) (and-then ! (load ! (from ! (stop !)) (look ! 5 refl)) (and-then ! (load ! (from ! (stop !)) (look ! 1 refl)) (no-more !)))) (λ u x is.
-        let told : u ≡ mach-answer (x .0) = ap only (LE.tells TN.the-type TN′.the-laws (x .0) (u ∷ []) (is .1 .0)) in
-        let x-is : IsAnswer (x .0) = subst (λ (v : Val). Is TN.the-row (x .0) (v ∷ [])) told (is .1 .0) in
-        land ! (from ! (stop !)) (init ! 9 refl (LE.lawful TN.the-type TN′.the-laws 𝓤 H A W tt .typed (x .0) (u ∷ []) (is .1 .0) .0)) $ rewrite ! 9 (λ (v : Val). ‵ (fat fullShare TN′.mir l₄ 0 v)) told refl $
-        calls-plain ! (Pack 𝓤 H A mem run) (mid ! fm met-pack) (to-pack (x .0)) (pack-pre (x .0) x-is)
-        (λ p v. Is u64 p (v ∷ []) × (p ≡ packedAnswer (x .0))) (λ v. left 𝓤 H A W u64 (Lasts pack′.ended tt (x .0, tt)) (λ _. fsep ftrue ftrue) (λ p. p ≡ packedAnswer (x .0)) v)
+        let told : u ≡ mach-answer (x .0 .0) = told-case TN.the-type TN′.the-laws (x .0 .0) u (is .1 .1 .0) in
+        let x-is : IsAnswer (x .0 .0) = known-case TN.the-type TN′.the-laws (x .0 .0) u (is .1 .1 .0) in
+        land ! (from ! (stop !)) (init ! 9 refl (LE.lawful TN.the-type TN′.the-laws 𝓤 H A W tt .typed (x .0 .0) (u ∷ []) (is .1 .1 .0) .0)) $ rewrite ! 9 (λ (v : Val). ‵ (fat fullShare TN′.mir l₄ 0 v)) told refl $
+        calls-plain ! (Pack 𝓤 H A mem run) (mid ! fm met-pack) (to-pack (x .0 .0)) (pack-pre (x .0 .0) x-is)
+        (λ p v. Is u64 p (v ∷ []) × (p ≡ packedAnswer (x .0 .0))) (λ v. left 𝓤 H A W u64 (Lasts pack′.ended tt (x .0 .0, tt)) (λ _. fsep ftrue ftrue) (λ p. p ≡ packedAnswer (x .0 .0)) v)
         (and-then ! (load ! (from ! (stop !)) (look ! 10 refl)) (no-more !)) (λ v p known.
         land ! (from ! (stop !)) (init ! 17 refl (subst (λ (z : Val). Holds (hasTy int64 z) × WT z) (sym (ap only (known .0 .0))) (tt, record { fits = known .0 .1 }))) $ rewrite ! 17 (λ (z : Val). ‵ (fat fullShare int64 l₀ 0 z)) (ap only (known .0 .0)) refl $
-        let told-all : (packedAnswer (x .0) ≡ packed (filing ws rows ys)) × ((x .1 .0 ≡ filing ws rows ys .rows) × (x .1 .1 ≡ filing ws rows ys .register)) = unpacked (x .0) (x .1 .0) (x .1 .1) (filing ws rows ys) (is .1 .1) in
+        let told-all : (packedAnswer (x .0 .0) ≡ packed (filing ws rows ys)) × ((x .0 .1 ≡ filing ws rows ys .rows) × (x .1 ≡ filing ws rows ys .register)) = unpacked (x .0 .0) (x .0 .1) (x .1) (filing ws rows ys) (is .1 .1 .1) in
         returns ! (look ! 17 refl) $ forget ! 17 refl $ forget ! 15 refl $ forget ! 13 refl $ forget ! 11 refl $ forget ! 9 refl $ forget ! 7 refl $ forget ! 5 refl $ forget ! 3 refl $ forget ! 1 refl $
         move ! (17 ∷ 18 ∷ []) $ free1 ! $ move ! (15 ∷ 16 ∷ []) $ free1 ! $ move ! (13 ∷ 14 ∷ []) $ free1 ! $ move ! (11 ∷ 12 ∷ []) $ free1 ! $ move ! (9 ∷ 10 ∷ []) $ free1 ! $ move ! (7 ∷ 8 ∷ []) $ free1 ! $ move ! (5 ∷ 6 ∷ []) $ free1 ! $ move ! (3 ∷ 4 ∷ []) $ free1 ! $ move ! (1 ∷ 2 ∷ []) $ free1 ! $ free0 ! $
-        by ! (exits p (x .0) (x .1 .0) (x .1 .1) (known .0 .1) (is .0 .0) (is .0 .1) (known .1 ∙ told-all .0, told-all .1))))
+        by ! (exits p (x .0 .0) (x .0 .1) (x .1) (known .0 .1) (is .1 .0) (is .0) (known .1 ∙ told-all .0, told-all .1))))
 
   module _ (𝓣 : Tables 𝓤 H) (met-file : Triple 𝓤 (𝓣 .C #file) (File 𝓤 H A mem run)) (met-pack : Triple 𝓤 (𝓣 .C #pack) (Pack 𝓤 H A mem run)) where
     walk : ent 𝓤 (onEntry 𝓤 H A export′.signature (κ₀, (κ₁, (κ₂, tt))) (q₀, (q₁, (q₂, tt))) a vals) (WpFn 𝓤 H (𝓣 .C) (𝓣 .Λ) code.function (book-val ∷ rows-val ∷ s ∷ []) Post)
