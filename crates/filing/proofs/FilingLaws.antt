@@ -1,22 +1,19 @@
 -- The filing as a whole: the rows test, the admission, the template. Assumes nothing.
 use Prim.Native.Nat.{ℕ, _≤_, _<_}
-use mathlib.Core.Path.{_≡_, refl, sym, _∙_}
+use mathlib.Core.Path.{_≡_, refl}
 use mathlib.Core.List.{List}
 use native.Mathlib.Omega.{arith}
-use native.Mathlib.Decide.{decLt}
 use borrow.Author.Tests.{lt-ltb, le-ltb}
-use lib.IntN.{ℤ, pos, subℕ}
+use lib.IntN.{ℤ}
 use lib.ListN.{length}
 use Rattle.rules.specs.declared.Entry.{Entry}
 use Rattle.rules.specs.Book.{Placed}
 use Rattle.rules.specs.Read.{headOf}
-use Rattle.rules.specs.Rows.{sumOver, sumsOf}
+use Rattle.rules.specs.Rows.{sumsOf}
 use Rattle.rules.specs.Filing.{Outcome, early, refused, accepted, admission, outcomeOf, registerAfter, filingOf, filing}
 use Rattle.rules.proofs.Lists.{total-le-all}
-use Rattle.rules.proofs.Differences.{sub-neg}
-use Rattle.laws.specs.Exposure.{exposureOf}
 use Rattle.laws.proofs.Accepted.{accepted-is}
-use Rattle.laws.proofs.ExposureSum.{exposure-row-is, exposure-is-sum}
+use Rattle.laws.proofs.ExposureSum.{accepted-balance, ups-are, downs-are}
 use Rattle.laws.proofs.ItemBounds.{itemWeight, items-small}
 use Rattle.laws.proofs.ItemRows.{allRows, rows-at-most, sums-total}
 use Rattle.template.specs.Sections.{SumsFit}
@@ -28,13 +25,6 @@ use Rattle.filing.proofs.StageLaws.{head-good}
 
 -- ---- the sums of an accepted book fit the rows
 
-not-below : (e up down : ℕ) → pos e ≡ subℕ up down → down ≤ up
-not-below e up down q = go (decLt up down)
-  where
-    go : Dec (up < down) → down ≤ up
-    go (yes h) = let z : _≡_ {A = ℕ} 0 1 = cc (q ∙ sub-neg up down h) in absurd (omega arith)
-    go (no h) = omega arith
-
 small : (ws : List ℕ) (rows entries : ℕ) (items : List Placed) (left : List Entry) → outcomeOf ws rows entries ≡ accepted items left → SumsFit (sumsOf (headOf ws .bands) items)
 unfolding sumsOf
 small ws rows entries items left e =
@@ -44,11 +34,10 @@ small ws rows entries items left e =
     let m = total-le-all (λ (p : Placed). allRows bands (p .item)) (λ (p : Placed). itemWeight bands (p .item)) (λ p. rows-at-most bands (p .item)) items in
     let t = sums-total bands items in
     let short = a .short in
-    let d = exposure-row-is (sumsOf bands items) in
     record {
       up = omega arith;
       down = omega arith;
-      within = not-below (sumOver (exposureOf bands) items) _ _ (sym (exposure-is-sum ws rows entries items left e) ∙ d .is);
+      within = omega (arith, ups-are bands items, downs-are bands items, accepted-balance ws rows entries items left e);
     }
 
 -- what is admitted can be published

@@ -5,6 +5,7 @@ use mathlib.Core.Bool.{Bool, true, false, cond}
 use mathlib.Core.List.{List, [], _∷_}
 use native.Mathlib.Omega.{arith}
 use Rattle.rules.specs.declared.Bands.{Bands}
+use Rattle.rules.specs.declared.Entry.{Entry}
 use Rattle.rules.specs.declared.Sums.{Sums}
 use Rattle.rules.specs.Factors.{conversionOf}
 use Rattle.rules.specs.Weighted.{weightedOf}
@@ -12,12 +13,13 @@ use Rattle.rules.specs.Book.{Asset, DerivativeSet, FinancingTrade, FinancingSet
 use Rattle.rules.specs.Read.{headOf, itemsOf}
 use Rattle.rules.specs.Weigh.{Tally, netOf, marginOffsets, replacementOf, weightedIn, writtenIn, coversIn, cashNetted, excessOf}
 use Rattle.rules.specs.Rows.{AssetRows, assetRows, tallyIn, grossWeighted, keptWeighted, row1, row2, row4, row5, row6, row7, row8, row9, row10, row12, row13, row14, row15, row17, row18, sumOver, sumsOf, onBalance, ofDerivativeRows, ofFinancingRows, ofOffBalanceRows, exposureRow}
+use Rattle.rules.specs.Filing.{outcomeOf, accepted}
 use Rattle.rules.proofs.Lists.{Every, total-le}
 use Rattle.rules.proofs.Lists
 use Rattle.rules.proofs.Weighted.{mono-x}
 use Rattle.rules.proofs.Differences.{Difference, of-pos, of-minus, as-difference, same, plus}
 use Rattle.laws.specs.Exposure.{exposureOf, ExposureIsSum}
-use Rattle.laws.proofs.Accepted.{Accepted, accepted-is}
+use Rattle.laws.proofs.Accepted.{accepted-is}
 use Rattle.laws.proofs.Valid.{ValidTrade, ValidItem, ValidPlaced, valid-items}
 use Rattle.laws.proofs.Settling.{CoversWithin, all-within, book-within}
 use Rattle.laws.proofs.Financing.{netted-at-most}
@@ -115,6 +117,13 @@ book-balance : (bands : Bands) (ps : List Placed) → Every ValidPlaced ps → E
 book-balance bands [] v c = refl
 book-balance bands (p ∷ ps) (Every.more v vs) (Every.more c cs) = omega (arith, item-balance bands (p .item) v c, book-balance bands ps vs cs)
 
+-- what the rows of an accepted book count up is the exposures of its items and what they count down, so that row 21 is never negative
+pub accepted-balance : (ws : List ℕ) (rows entries : ℕ) (items : List Placed) (left : List Entry) → outcomeOf ws rows entries ≡ accepted items left
+    → sumOver (ups (headOf ws .bands)) items ≡ sumOver (exposureOf (headOf ws .bands)) items + sumOver (downs (headOf ws .bands)) items
+accepted-balance ws rows entries items left e =
+    let a = accepted-is ws rows entries items left e in
+    book-balance (headOf ws .bands) items (rw (a .read) at (valid-items ws)) (rw (a .read) at (book-within (itemsOf ws .records) (all-within _ _ left (a .fits))))
+
 -- the sums of the rows are the rows of the sums
 pub ups-are : (bands : Bands) (ps : List Placed)
     → sumOver (ups bands) ps
@@ -152,12 +161,8 @@ pub exposure-is-sum : ExposureIsSum
 unfolding sumsOf
 exposure-is-sum ws rows entries items left e =
     same
-    (as-difference (sumOver (exposureOf bands) items) 0 (exposure-row-is (sumsOf bands items))
-    (omega (arith, ups-are bands items, downs-are bands items, book-balance bands items (rw (a .read) at (valid-items ws)) (rw (a .read) at (book-within (itemsOf ws .records) (all-within _ _ left (a .fits)))))))
+    (as-difference (sumOver (exposureOf bands) items) 0 (exposure-row-is (sumsOf bands items)) (omega (arith, ups-are bands items, downs-are bands items, accepted-balance ws rows entries items left e)))
     (of-pos (sumOver (exposureOf bands) items))
   where
     bands : Bands
     bands = headOf ws .bands
-
-    a : Accepted ws rows entries items left
-    a = accepted-is ws rows entries items left e
