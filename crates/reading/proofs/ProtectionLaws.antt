@@ -11,13 +11,14 @@ use Rattle.rules.specs.Word.{word, kindOf}
 use Rattle.rules.specs.Book.{Protection}
 use Rattle.rules.specs.Faults.{protectionFault}
 use Rattle.rules.specs.Run.{Turn, over, some, Run, thenRun, runFrom}
-use Rattle.rules.specs.Read.{lacks, recordThen, protectionAt, protectionTurn}
+use Rattle.rules.specs.Read.{recordThen, protectionAt, protectionTurn}
 use Rattle.rules.proofs.Runs.{FineTurn}
 use Rattle.laws.proofs.Protections.{Filled, protection-filled}
 use Rattle.laws.proofs.Protections
 use Rattle.laws.proofs.MemberBounds.{perWord}
 use Rattle.laws.proofs.ItemBounds.{nothing, fine-protection}
-use Rattle.records.proofs.Words.{turn-lacks, turn-fault, turn-on}
+use Rattle.records.specs.Step.{protectionCause}
+use Rattle.records.proofs.Words.{record-faulty, record-good}
 use Rattle.reading.specs.declared.protections.Protections.the-variants.{Upto, Refused}
 use Rattle.reading.specs.Steps.{protectionStep, placeOf}
 
@@ -32,20 +33,18 @@ module _ (ws : List ℕ) (at : ℕ) where
   unfolding protectionTurn
   due-other h k q n = simp (lt-leb _ _ h, ne-eqb _ _ (λ z. n (q ∙ z)))
 
-  module _ (h : at < length ws) (k : ℕ) (kq : k ≡ kindOf (word ws at)) (ke : k ≡ 3) (l : Bool) (lq : l ≡ lacks 3 ws at) where
+  module _ (h : at < length ws) (k : ℕ) (kq : k ≡ kindOf (word ws at)) (ke : k ≡ 3) (f : ℕ) (fq : f ≡ protectionCause ws at) where
     is-record : protectionTurn ws at ≡ recordThen ws at (protectionFault (word ws at) (word ws (at + 1)) (word ws (at + 2)) (word ws (at + 3))) (some (protectionAt ws at) 0)
     unfolding protectionTurn
     is-record = simp (lt-leb _ _ h, eq-eqb _ _ (sym kq ∙ ke))
 
-    pub due-lacks : l ≡ true → Refused 6 at ≡ protectionStep (protectionTurn ws at)
-    due-lacks e = sym (ap protectionStep (is-record ∙ turn-lacks ws at 3 (sym kq ∙ ke) _ _ (sym lq ∙ e)))
+    pub due-fault : (f ≡ 0 → ⊥) → Refused f at ≡ protectionStep (protectionTurn ws at)
+    unfolding protectionCause
+    due-fault n = rw fq (sym (ap protectionStep (is-record ∙ record-faulty ws at 3 (sym kq ∙ ke) _ _ (λ z. n (fq ∙ z)))))
 
-    module _ (e : l ≡ false) (f : ℕ) (fq : f ≡ protectionFault (word ws at) (word ws (at + 1)) (word ws (at + 2)) (word ws (at + 3))) where
-      pub due-fault : (f ≡ 0 → ⊥) → Refused f at ≡ protectionStep (protectionTurn ws at)
-      due-fault n = rw fq (sym (ap protectionStep (is-record ∙ turn-fault ws at 3 (sym kq ∙ ke) _ _ (sym lq ∙ e) (λ z. n (fq ∙ z)))))
-
-      pub due-good : f ≡ 0 → Upto (at + 4) ≡ protectionStep (protectionTurn ws at)
-      due-good z = sym (ap protectionStep (is-record ∙ turn-on ws at 3 (sym kq ∙ ke) _ _ (sym lq ∙ e) (sym fq ∙ z)))
+    pub due-good : f ≡ 0 → Upto (at + 4) ≡ protectionStep (protectionTurn ws at)
+    unfolding protectionCause
+    due-good z = sym (ap protectionStep (is-record ∙ record-good ws at 3 (sym kq ∙ ke) _ _ (sym fq ∙ z) .1))
 
 -- ---- all of them
 

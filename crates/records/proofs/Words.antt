@@ -45,10 +45,6 @@ standing-there ws at k n h q = simp (lt-ltb at (length ws) h, q)
 
 -- ---- what they tell
 
--- as a call of `lacking` gave it
-pub room : (n k : ℕ) (ws : List ℕ) (at : ℕ) (r : Bool) → r ≡ lacks n ws at → r ≡ false → at < length ws → k ≤ n → at + k < length ws
-room n k ws at r q e h l = omega (arith, lacks-room n ws at (sym q ∙ e) h)
-
 -- all words of a record that lacks none are there
 pub whole : (n : ℕ) {ws : List ℕ} {at : ℕ} {r : Bool} → r ≡ lacks n ws at → r ≡ false → Readable (suc at) ws → Readable (at + suc n) ws
 whole n {ws} {at} q e s = record { within = omega (arith, lacks-room n ws at (sym q ∙ e) (s .within)); short = s .short }

@@ -1,4 +1,4 @@
--- What the reading makes of an item: its words, its causes, and the sums that it has gathered so far with the item's part of each row.
+-- What the reading makes of a record: its words, its causes, and of an item the sums that it has gathered so far with the item's part of each row.
 -- Assumes nothing.
 use Prim.Native.Nat.{ℕ, zero, suc, _+_, _*_, _^_}
 use mathlib.Core.Bool.{Bool, not, _&&_}
@@ -8,13 +8,14 @@ use lib.ListN.{drop}
 use Rattle.rules.specs.declared.Bands.{Bands}
 use Rattle.rules.specs.declared.Sums.{Sums}
 use Rattle.rules.specs.Word.{word, kindOf, payloadOf, fieldOf, sizeOf, faultyAmount}
-use Rattle.rules.specs.Faults.{assetFault, offBalanceFault}
+use Rattle.rules.specs.Faults.{protectionFault, assetFault, offBalanceFault}
 use Rattle.rules.specs.Factors.{conversionOf}
 use Rattle.rules.specs.Read.{stands}
 use Rattle.rules.specs.Book.{Item}
 use Rattle.rules.specs.Run.{Turn, over, bad, some}
 use Rattle.records.specs.declared.assets.AssetWords.{AssetWords}
 use Rattle.records.specs.declared.commitments.OffBalanceWords.{OffBalanceWords}
+use Rattle.records.specs.declared.protections.ProtectionWords.{ProtectionWords}
 use Rattle.records.specs.declared.ItemStep.{ItemStep}
 use Rattle.records.specs.declared.ItemStep.the-variants.{Next, Refused}
 use Rattle.records.specs.Cause.{recordCause}
@@ -36,6 +37,15 @@ itemStep bands (some i (suc number) place) = Refused (suc number) place
 -- an amount, and not negative
 abbrev pub plainAmount : ℕ → Bool
 plainAmount w = eqb (kindOf w) 0 && not (faultyAmount w)
+
+-- ---- protections
+
+abbrev pub protectionWords : List ℕ → ℕ → ProtectionWords
+protectionWords ws at = record { head = word ws at; notional = word ws (at + 1); gain = word ws (at + 2); days = word ws (at + 3) }
+
+-- the causes 6 to 9
+unfoldable pub protectionCause : List ℕ → ℕ → ℕ
+protectionCause ws at = recordCause 3 ws at (protectionFault (word ws at) (word ws (at + 1)) (word ws (at + 2)) (word ws (at + 3)))
 
 -- ---- assets
 

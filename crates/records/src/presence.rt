@@ -5,6 +5,7 @@ use words::parts::kind;
 ghost use mathlib.Core.Path.{_≡_};
 ghost use Prim.Native.Nat.{_≤_, _<_};
 ghost use denote.Ref.{now};
+ghost use Rattle.rules.specs.Word.{word};
 ghost use Rattle.rules.specs.Read.{lacks, stands};
 ghost use Rattle.records.specs.Readable.{Readable};
 
@@ -33,4 +34,14 @@ pub fn standing(ws: &[u32], at: usize, k: u32) -> bool
         return false;
     }
     kind(ws[at]) == k
+}
+
+// The word at a place; 0 beyond the end, so that whoever reads has no index to prove.
+pub fn word_at(ws: &[u32], at: usize) -> u32
+    ensures { λ r. ⌜ r ≡ word (now (ws .entry)) at ⌝ }
+{
+    if at < ws.len() {
+        return ws[at];
+    }
+    0
 }

@@ -7,19 +7,22 @@ use Rattle.register.proofs.book.entry_from.Tie as tie
 returns : tie.Need-returns
 unfolding protectionAt
 returns c =
-    let size-at = c .before .before .before .size-at in
-    let field2 = c .before .before .before .before .field2 in
-    let field = c .before .before .before .before .before .field in
-    let word-at = c .before .before .before .before .before .before .word-at in
-    simp ((c .short-of .ensures), (size-at .ensures), (c .before .before .size-at2 .ensures), (c .before .size-at3 .ensures), (field .ensures), (field2 .ensures), (word-at .ensures))
+    let sizes = c .before in
+    let parts = sizes .before .before .before in
+    simp (
+      c .short-of .ensures,
+      sizes .size3 .ensures,
+      sizes .before .size2 .ensures,
+      sizes .before .before .size .ensures,
+      parts .field2 .ensures,
+      parts .before .field .ensures,
+      parts .before .before .protection-words .ensures,
+    )
 
 pub entry-from-spec : {M : Type 1} → statement M
 entry-from-spec =
     tie.close
     (tie.spec
-    (search needs)
-    (search needs)
-    (search needs)
     (search needs)
     (search needs)
     (search needs)
