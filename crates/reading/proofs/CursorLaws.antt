@@ -37,18 +37,18 @@ use Rattle.reading.specs.Ahead.{endsAt, after, fromItem, fromSet, record
 
 -- ---- where it stands
 
-abbrev pub itemCursor : ℕ → Sums → OpenSet → Cursor
-itemCursor at s o = record { begun = true; inside = false; at = at; sums = s; set = o }
+abbrev pub itemCursor : Bands → ℕ → Sums → OpenSet → Cursor
+itemCursor bands at s o = record { begun = true; inside = false; at = at; sums = s; set = o; bands = bands }
 
-abbrev pub setCursor : ℕ → Sums → OpenSet → Cursor
-setCursor at s o = record { begun = true; inside = true; at = at; sums = s; set = o }
+abbrev pub setCursor : Bands → ℕ → Sums → OpenSet → Cursor
+setCursor bands at s o = record { begun = true; inside = true; at = at; sums = s; set = o; bands = bands }
 
 module _ {ws : List ℕ} {c : Cursor} (so : Sound ws c) where
-  pub sound-item : {at : ℕ} {s : Sums} (o : OpenSet) → SumsUpTo ws s at → Sound ws (itemCursor at s o)
-  sound-item o f = record { readable = so .readable; sums-up-to = λ b. f; set = λ b i. let z : _≡_ {A = ℕ} 0 1 = cc in absurd (omega arith) }
+  pub sound-item : {at : ℕ} {s : Sums} (o : OpenSet) → SumsUpTo ws s at → Sound ws (itemCursor (c .bands) at s o)
+  sound-item o f = record { readable = so .readable; bands = so .bands; sums-up-to = λ b. f; set = λ b i. let z : _≡_ {A = ℕ} 0 1 = cc in absurd (omega arith) }
 
-  pub sound-set : {at : ℕ} {s : Sums} {o : OpenSet} → SumsUpTo ws s at → SoundSet (drop at ws) o → Sound ws (setCursor at s o)
-  sound-set f t = record { readable = so .readable; sums-up-to = λ b. f; set = λ b i. t }
+  pub sound-set : {at : ℕ} {s : Sums} {o : OpenSet} → SumsUpTo ws s at → SoundSet (drop at ws) o → Sound ws (setCursor (c .bands) at s o)
+  sound-set f t = record { readable = so .readable; bands = so .bands; sums-up-to = λ b. f; set = λ b i. t }
 
 module _ (ws : List ℕ) (c : Cursor) where
   pub ahead-first : c .begun ≡ false → ahead ws c ≡ recordsAhead ws
@@ -83,13 +83,13 @@ module _ {ws : List ℕ} {c : Cursor} (so : Sound ws c) (b : c .begun ≡ true) 
   told : ahead ws c ≡ answerAhead (headOf ws .bands) ws (c .sums) (c .at) r
   told = ahead-item ws c b i ∙ q .0 (headOf ws .bands)
 
-  pub step-more : (sums : Sums) (next : ℕ) → r ≡ More sums next → (o : OpenSet) → Right ws c (On (itemCursor next sums o))
+  pub step-more : (sums : Sums) (next : ℕ) → r ≡ More sums next → (o : OpenSet) → Right ws c (On (itemCursor (c .bands) next sums o))
   unfolding ahead
   step-more sums next e o =
       let f : SumsUpTo ws sums next × (c .at < next) = rw e at (q .1) in
       (rw e at told, (sound-item so o (f .0), omega (arith, left-item ws c b i, f .0 .readable .within, f .1)))
 
-  pub step-set : r ≡ Set → (o : OpenSet) → o ≡ newSet → Right ws c (On (setCursor (c .at) (c .sums) o))
+  pub step-set : r ≡ Set → (o : OpenSet) → o ≡ newSet → Right ws c (On (setCursor (c .bands) (c .at) (c .sums) o))
   unfolding ahead
   step-set e o oq =
       let t : SoundSet (drop (c .at) ws) newSet = rw e at (q .1) in
@@ -125,12 +125,12 @@ module _ {ws : List ℕ} {c : Cursor} (so : Sound ws c) (b : c .begun ≡ false)
           let y : protectionsOf ws .place ≡ place = cc in
           rw (← x, ← y) (ahead-first ws c b ∙ simp h, tt)
 
-  pub step-upto : (at : ℕ) → r ≡ Upto at → (s : Sums) → s ≡ noSums → (o : OpenSet) → Right ws c (On (itemCursor at s o))
+  pub step-upto : (at : ℕ) → r ≡ Upto at → (s : Sums) → s ≡ noSums → (o : OpenSet) → Right ws c (On (itemCursor (c .bands) at s o))
   unfolding placeOf recordsAhead readingOf itemsOf ahead fromItem sumsOf allSums
   step-upto at e s sq o = rw sq (go (eqb (protectionsOf ws .number) 0) refl (sym whole ∙ e))
     where
       go : (t : Bool) → eqb (protectionsOf ws .number) 0 ≡ t → cond t (Upto (protectionsOf ws .place)) (protections.Refused (protectionsOf ws .number) (protectionsOf ws .place)) ≡ Upto at
-          → Right ws c (On (itemCursor at noSums o))
+          → Right ws c (On (itemCursor (c .bands) at noSums o))
       go true h w =
           let y : protectionsOf ws .place ≡ at = cc in
           let l : at ≤ length ws = rw (← y) (protections-within ws (so .readable .within)) in

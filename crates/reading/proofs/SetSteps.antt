@@ -5,7 +5,6 @@ use mathlib.Core.Bool.{true}
 use mathlib.Core.List.{List}
 use native.Mathlib.Omega.{arith}
 use lib.ListN.{length, drop, length-drop}
-use Rattle.rules.specs.declared.Bands.{Bands}
 use Rattle.rules.specs.declared.Draw.{Draw}
 use Rattle.rules.specs.declared.Sums.{Sums}
 use Rattle.rules.specs.Read.{headOf}
@@ -36,16 +35,16 @@ sound-part {ws} {c} so b i =
     let r = so .sums-up-to b .readable in
     rw (from-is ws (c .at)) (so .set b i, omega (arith, r .within, r .short, length-drop (c .at) ws))
 
-module _ {ws : List ℕ} {c : Cursor} (so : Sound ws c) (b : c .begun ≡ true) (i : c .inside ≡ true) {bands : Bands} (bq : bands ≡ headOf ws .bands) (r : Weighed)
-    (q : (setAhead bands (partAt ws (c .at)) (c .at) (c .set) ≡ weighedAhead bands (partAt ws (c .at)) (c .at) r) × SoundWeighed (partAt ws (c .at)) r) where
+module _ {ws : List ℕ} {c : Cursor} (so : Sound ws c) (b : c .begun ≡ true) (i : c .inside ≡ true) (r : Weighed)
+    (q : (setAhead (c .bands) (partAt ws (c .at)) (c .at) (c .set) ≡ weighedAhead (c .bands) (partAt ws (c .at)) (c .at) r) × SoundWeighed (partAt ws (c .at)) r) where
   weighed : (setAhead (headOf ws .bands) (drop (c .at) ws) (c .at) (c .set) ≡ weighedAhead (headOf ws .bands) (drop (c .at) ws) (c .at) r) × SoundWeighed (drop (c .at) ws) r
-  weighed = rw (from-is ws (c .at), bq) at q
+  weighed = rw (from-is ws (c .at), so .bands) at q
 
   told : ahead ws c ≡ setBehind (headOf ws .bands) ws (c .sums) (c .at) (weighedAhead (headOf ws .bands) (drop (c .at) ws) (c .at) r)
   unfolding fromSet
   told = ahead-set ws c b i ∙ ap (setBehind (headOf ws .bands) ws (c .sums) (c .at)) (weighed .0)
 
-  pub step-cover : (d : Draw) (o : OpenSet) → r ≡ set.Cover d o → Right ws c (Cover d (setCursor (c .at) (c .sums) o))
+  pub step-cover : (d : Draw) (o : OpenSet) → r ≡ set.Cover d o → Right ws c (Cover d (setCursor (c .bands) (c .at) (c .sums) o))
   unfolding ahead fromSet
   step-cover d o e =
       let t : SoundSet (drop (c .at) ws) o = rw e at (weighed .1) in
@@ -78,7 +77,7 @@ module _ {ws : List ℕ} {c : Cursor} (so : Sound ws c) (b : c .begun ≡ true) 
     pub plus-roomy : (x : SetWords) {more : Sums} → more ≡ setSums (setOf x) t → SumsRoomy (c .sums) × SumsRoomy more
     plus-roomy x q = (sums-roomy (so .sums-up-to b), rw q (set-roomy x tally-small))
 
-    pub step-whole : {x : SetWords} → x ≡ setWords (partAt ws (c .at)) → {more : Sums} → more ≡ setSums (setOf x) t → {s : Sums} → s ≡ plus (c .sums) more → (o : OpenSet) → Right ws c (On (itemCursor (c .at + place) s o))
+    pub step-whole : {x : SetWords} → x ≡ setWords (partAt ws (c .at)) → {more : Sums} → more ≡ setSums (setOf x) t → {s : Sums} → s ≡ plus (c .sums) more → (o : OpenSet) → Right ws c (On (itemCursor (c .bands) (c .at + place) s o))
     unfolding ahead
     step-whole {x} xq {more} mq {s} sq o =
         let d = setWords (drop (c .at) ws) in

@@ -81,12 +81,13 @@ ahead ws c =
 
 -- ---- cursors
 
-abbrev pub newCursor : Cursor
-newCursor = record { begun = false; inside = false; at = firstRecord; sums = noSums; set = newSet }
+abbrev pub newCursor : List ℕ → Cursor
+newCursor ws = record { begun = false; inside = false; at = firstRecord; sums = noSums; set = newSet; bands = headOf ws .bands }
 
--- a cursor of a book: sums and tally are as large as its words allow
+-- a cursor of a book: its bands are those of the head, sums and tally are as large as its words allow
 pub record Sound (ws : List ℕ) (c : Cursor) : Type 0 where
   pub readable : Readable firstRecord ws
+  pub bands : c .bands ≡ headOf ws .bands
   pub sums-up-to : c .begun ≡ true → SumsUpTo ws (c .sums) (c .at)
   pub set : c .begun ≡ true → c .inside ≡ true → SoundSet (drop (c .at) ws) (c .set)
 

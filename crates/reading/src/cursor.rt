@@ -5,6 +5,7 @@ use crate::steps::Step;
 use crate::steps::next_step;
 use derivatives::set::OpenSet;
 use records::sums::no_sums;
+use rules::Bands;
 use rules::Draw;
 use rules::Sums;
 use rules::limits;
@@ -19,6 +20,7 @@ pub struct Cursor {
     pub at: usize,
     pub sums: Sums,
     pub set: OpenSet,
+    pub bands: Bands,
 }
 
 // Whether there is a further cover; if so the cover as a draw, and the cursor behind it, else what the reading comes to.
@@ -30,9 +32,9 @@ pub struct NextCover {
 }
 
 impl Cursor {
-    // Before the first record behind the head.
-    pub fn new() -> Cursor
-        ensures { λ r. ⌜ r ≡ newCursor ⌝ }
+    // Before the first record behind the head, with the bands of the book's factors.
+    pub fn new(book: &[u32]) -> Cursor
+        ensures { λ r. ⌜ r ≡ newCursor (now (book .entry)) ⌝ }
     {
         Cursor {
             begun: false,
@@ -40,6 +42,7 @@ impl Cursor {
             at: limits::FIRST_RECORD,
             sums: no_sums(),
             set: OpenSet::new(),
+            bands: bands_of(book),
         }
     }
 }
@@ -63,10 +66,9 @@ pub fn next_draw(book: &[u32], from: Cursor) -> NextCover
     requires { ⌜ Sound (now book) from ⌝ }
     ensures { λ r. ⌜ (ahead (now (book .entry)) from ≡ nextAhead (now (book .entry)) r) × SoundNext (now (book .entry)) r ⌝ }
 {
-    let bands = bands_of(book);
     let mut c = from;
     loop {
-        match next_step(book, c, bands) {
+        match next_step(book, c) {
             Step::On(next) => {
                 c = next;
             }

@@ -12,13 +12,11 @@ use derivatives::set::Weighed;
 use derivatives::set::weigh;
 use records::sums::no_sums;
 use records::sums::plus;
-use rules::Bands;
 use rules::Draw;
 use words::parts::payload;
 ghost use mathlib.Core.Path.{_≡_};
 ghost use mathlib.Core.Bool.{true, false};
 ghost use denote.Ref.{now};
-ghost use Rattle.rules.specs.Read.{headOf};
 ghost use Rattle.reading.specs.Ahead.{Sound, SoundStep, ahead, stepAhead};
 
 // The cursor further on; the next cover, and the cursor behind it; or what the reading comes to.
@@ -28,15 +26,15 @@ pub enum Step {
     Ended(Admission),
 }
 
-pub fn next_step(book: &[u32], c: Cursor, bands: Bands) -> Step
-    requires { ⌜ Sound (now book) c × (bands ≡ headOf (now book) .bands) ⌝ }
+pub fn next_step(book: &[u32], c: Cursor) -> Step
+    requires { ⌜ Sound (now book) c ⌝ }
     ensures { λ r. ⌜ (ahead (now (book .entry)) c ≡ stepAhead (now (book .entry)) r) × SoundStep (now (book .entry)) c r ⌝ }
 {
     if !c.begun {
         return protections_step(book, c);
     }
     if c.inside {
-        return set_step(book, c, bands);
+        return set_step(book, c);
     }
     item_step(book, c)
 }
@@ -46,6 +44,7 @@ fn protections_step(book: &[u32], c: Cursor) -> Step
     requires { ⌜ Sound (now book) c × (c .begun ≡ false) ⌝ }
     ensures { λ r. ⌜ (ahead (now (book .entry)) c ≡ stepAhead (now (book .entry)) r) × SoundStep (now (book .entry)) c r ⌝ }
 {
+    let bands = c.bands;
     match read_protections(book, payload(book[0]) as usize) {
         Protections::Refused { number, place } => Step::Ended(Admission::Refused { number, place }),
         Protections::Upto(at) => Step::On(Cursor {
@@ -54,15 +53,17 @@ fn protections_step(book: &[u32], c: Cursor) -> Step
             at: at,
             sums: no_sums(),
             set: OpenSet::new(),
+            bands: bands,
         }),
     }
 }
 
 // The set is read on its part of the book, from its head on.
-fn set_step(book: &[u32], c: Cursor, bands: Bands) -> Step
-    requires { ⌜ Sound (now book) c × ((c .begun ≡ true) × ((c .inside ≡ true) × (bands ≡ headOf (now book) .bands))) ⌝ }
+fn set_step(book: &[u32], c: Cursor) -> Step
+    requires { ⌜ Sound (now book) c × ((c .begun ≡ true) × (c .inside ≡ true)) ⌝ }
     ensures { λ r. ⌜ (ahead (now (book .entry)) c ≡ stepAhead (now (book .entry)) r) × SoundStep (now (book .entry)) c r ⌝ }
 {
+    let bands = c.bands;
     let at = c.at;
     let sums = c.sums;
     let set = c.set;
@@ -76,6 +77,7 @@ fn set_step(book: &[u32], c: Cursor, bands: Bands) -> Step
                 at: at,
                 sums: sums,
                 set: next,
+                bands: bands,
             },
         ),
         Weighed::Whole(t, place) => Step::On(Cursor {
@@ -84,6 +86,7 @@ fn set_step(book: &[u32], c: Cursor, bands: Bands) -> Step
             at: at + place,
             sums: plus(sums, set_sums(set_words(part), t)),
             set: OpenSet::new(),
+            bands: bands,
         }),
         Weighed::Refused { number, place } => Step::Ended(Admission::Refused {
             number,
@@ -96,6 +99,7 @@ fn item_step(book: &[u32], c: Cursor) -> Step
     requires { ⌜ Sound (now book) c × ((c .begun ≡ true) × (c .inside ≡ false)) ⌝ }
     ensures { λ r. ⌜ (ahead (now (book .entry)) c ≡ stepAhead (now (book .entry)) r) × SoundStep (now (book .entry)) c r ⌝ }
 {
+    let bands = c.bands;
     let at = c.at;
     let sums = c.sums;
     match item_at(book, at, sums) {
@@ -105,6 +109,7 @@ fn item_step(book: &[u32], c: Cursor) -> Step
             at: next,
             sums: more,
             set: OpenSet::new(),
+            bands: bands,
         }),
         ItemAnswer::Set => Step::On(Cursor {
             begun: true,
@@ -112,6 +117,7 @@ fn item_step(book: &[u32], c: Cursor) -> Step
             at: at,
             sums: sums,
             set: OpenSet::new(),
+            bands: bands,
         }),
         ItemAnswer::End => Step::Ended(Admission::Admitted(sums)),
         ItemAnswer::Refused { number, place } => Step::Ended(Admission::Refused { number, place }),

@@ -121,6 +121,14 @@ module _ {M : Type 1} (𝓤 : URA M) (H : Heap 𝓤) (A : Atoms 𝓤) (mem : Mem
           qed W (‵ (flft κ p) ∷ ‵ (shr-own u32 (named 0) κ γ b o m ws) ∷ []) ∵ says ! asked $ nothing ! $ move ! (1 ∷ 0 ∷ []) $ join ! $ frame ! $
           nothing ! $ owned ! usize (Is usize) (uint-makes 𝓤 H A W w64) i _ (refl, fits) $ fjoin ! $ move ! (1 ∷ 0 ∷ []) $ fjoin ! $ done !
 
+      abbrev pub to-start : Start .Ghost
+      to-start = (((κ, tt), (p, tt), tt, (slice b o γ ws, tt), (sliceVal (b, o) m ∷ [], tt)), tt)
+
+      pub start-pre : ent 𝓤 Given-book (Start .pre to-start)
+      start-pre =
+          qed W (‵ (flft κ p) ∷ ‵ (shr-own u32 (named 0) κ γ b o m ws) ∷ []) ∵ nothing ! $ nothing ! $ nothing ! $
+          move ! (4 ∷ 0 ∷ []) $ fjoin ! $ move ! (3 ∷ 1 ∷ []) $ join ! $ join ! $ join ! $ done !
+
       abbrev pub to-next-draw : Cursor → NextDraw .Ghost
       to-next-draw c = (((κ, tt), (p, tt), tt, (slice b o γ ws, (c, tt)), (sliceVal (b, o) m ∷ [], (mach-cursor c ∷ [], tt))), tt)
 
@@ -200,13 +208,6 @@ module _ {M : Type 1} {𝓤 : URA M} {H : Heap 𝓤} {A : Atoms 𝓤} {K : Type 
       (λ w. left 𝓤 H A W TA.the-row (Unit {0} × (Unit {0} × Unit {0})) (λ _. fsep ftrue (fsep ftrue ftrue)) (λ r. (r .number ≡ unfitFor e d) × (r .entry ≡ drawnDown e d)) w)
       os (λ w r is. regoal t after (told TA.the-type TA′.the-laws r w (is .0)) refl $ k r (known TA.the-type TA′.the-laws r w (is .0)) (is .1))
 
-  pub calls-start : Call K W E xs (Start 𝓤 H A mem run) G after → Opds K W (raw (Start 𝓤 H A mem run .pre ((tt, tt, tt, tt, tt), tt)) ∷ Γ) E xs []
-      → (IsCursor newCursor → Seq K W Γ (after (mach-cursor newCursor))) → Seq K W Γ G
-  calls-start cl os k =
-      calls-plain {H = H} {A = A} {W = W} t (Start 𝓤 H A mem run) cl ((tt, tt, tt, tt, tt), tt) (qed W [] ∵ nothing ! $ nothing ! $ nothing ! $ join ! $ join ! $ done !)
-      (λ r w. Is TC.the-row r (w ∷ []) × (r ≡ newCursor)) (λ w. left 𝓤 H A W TC.the-row (Unit {0}) (λ _. ftrue) (λ r. r ≡ newCursor) w)
-      os (λ w r is. regoal t after (told TC.the-type TC′.the-laws r w (is .0) ∙ ap mach-cursor (is .1)) refl $ k (subst IsCursor (is .1) (known TC.the-type TC′.the-laws r w (is .0))))
-
   -- ---- over the book
 
   pub calls-entry-from : Call K W E xs (EntryFrom 𝓤 H A mem run) G after → (ℓ : Lifetime) {κ : Lft} {p : Share} {γ : GName} {b o m : ℕ} (ws : List ℕ) (i : ℕ) → i < 2 ^ 64 → i ≤ 4096
@@ -218,6 +219,15 @@ module _ {M : Type 1} {𝓤 : URA M} {H : Heap 𝓤} {A : Atoms 𝓤} {K : Type 
       (λ r w. Is R r (w ∷ []) × (r ≡ entryOf (protectionAt ws (protectionPlace i))))
       (λ w. left-shared 𝓤 H A W R κ p (Lasts entry-from′.ended (κ, tt) (slice b o γ ws, (i, tt))) (λ _. fsep ftrue (fsep ftrue ftrue)) (λ r. r ≡ entryOf (protectionAt ws (protectionPlace i))) w)
       os (λ w r is. regoal t after (told TE.the-type TE′.the-laws r w (is .0) ∙ ap mach (is .1)) refl $ k (subst IsEntry (is .1) (known TE.the-type TE′.the-laws r w (is .0))))
+
+  pub calls-start : Call K W E xs (Start 𝓤 H A mem run) G after → (ℓ : Lifetime) {κ : Lft} {p : Share} {γ : GName} {b o m : ℕ} (ws : List ℕ)
+      → Opds K W (raw (Start 𝓤 H A mem run .pre (to-start 𝓤 H A mem run W κ p b o γ m ws)) ∷ ‵ (shr-own u32 ℓ κ γ b o m ws) ∷ Γ) E xs (sliceVal (b, o) m ∷ [])
+      → (IsCursor (newCursor ws) → Seq K W (‵ (shr-own u32 ℓ κ γ b o m ws) ∷ ‵ (flft κ p) ∷ Γ) (after (mach-cursor (newCursor ws)))) → Seq K W (‵ (shr-own u32 ℓ κ γ b o m ws) ∷ ‵ (flft κ p) ∷ Γ) G
+  calls-start cl ℓ {κ} {p} {γ} {b} {o} {m} ws os k =
+      calls-passed {H = H} {A = A} {W = W} t (Start 𝓤 H A mem run) cl u32 ℓ ws (to-start 𝓤 H A mem run W κ p b o γ m ws) (start-pre 𝓤 H A mem run W κ p b o γ m ws)
+      (λ r w. Is TC.the-row r (w ∷ []) × (r ≡ newCursor ws))
+      (λ w. left-shared 𝓤 H A W TC.the-row κ p (Lasts start′.ended (κ, tt) (slice b o γ ws, tt)) (λ _. fsep ftrue ftrue) (λ r. r ≡ newCursor ws) w)
+      os (λ w r is. regoal t after (told TC.the-type TC′.the-laws r w (is .0) ∙ ap mach-cursor (is .1)) refl $ k (subst IsCursor (is .1) (known TC.the-type TC′.the-laws r w (is .0))))
 
   pub calls-next-draw : Call K W E xs (NextDraw 𝓤 H A mem run) G after → (ℓ : Lifetime) {κ : Lft} {p : Share} {γ : GName} {b o m : ℕ} (ws : List ℕ) (c : Cursor) → IsCursor c → Sound ws c
       → Opds K W (raw (NextDraw 𝓤 H A mem run .pre (to-next-draw 𝓤 H A mem run W κ p b o γ m ws c)) ∷ ‵ (shr-own u32 ℓ κ γ b o m ws) ∷ Γ) E xs (sliceVal (b, o) m ∷ mach-cursor c ∷ [])

@@ -8,9 +8,9 @@ use Rattle.records.specs.Readable.{Readable}
 use Rattle.reading.specs.Ahead.{recordsAhead, ahead, newCursor, Sound}
 
 -- all of its records lie ahead
-pub start-ahead : (ws : List ℕ) → ahead ws newCursor ≡ recordsAhead ws
+pub start-ahead : (ws : List ℕ) → ahead ws (newCursor ws) ≡ recordsAhead ws
 unfolding ahead
 start-ahead ws = refl
 
-pub start-sound : (ws : List ℕ) → Readable firstRecord ws → Sound ws newCursor
-start-sound ws r = record { readable = r; sums-up-to = λ e. absurd (true≢false (sym e)); set = λ e. absurd (true≢false (sym e)) }
+pub start-sound : (ws : List ℕ) → Readable firstRecord ws → Sound ws (newCursor ws)
+start-sound ws r = record { readable = r; bands = refl; sums-up-to = λ e. absurd (true≢false (sym e)); set = λ e. absurd (true≢false (sym e)) }

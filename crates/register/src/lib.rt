@@ -27,7 +27,7 @@ pub fn settle(book: &[u32], register: &mut [Entry], b: usize) -> Admission
         × (now (register .exit) ≡ leftAfter (now (book .entry)) b ++ drop b (now (register .entry))) ⌝ }
 {
     load_all(book, register, b);
-    let mut cursor = Cursor::new();
+    let mut cursor = Cursor::new(book);
     loop {
         let found = next_draw(book, cursor);
         if !found.some {

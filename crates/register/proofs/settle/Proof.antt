@@ -284,14 +284,14 @@ module _ {M : Type 1} (𝓤 : URA M) (H : Heap 𝓤) (A : Atoms 𝓤) (W : Given
         assigns ! (addr ! (from ! (fld ! refl (hop ! (look-in ! 24 (sub ! 0 refl (whole !))) (stop !))))) (from ! (stop !)) (init ! 12 refl (tt, tt)) $ assigns ! (agg ! (and-then ! (load ! (from ! (stop !)) (look ! 12 refl)) (and-then ! (load ! (from ! (fld ! refl (stop !))) (look-in ! 24 (sub ! 1 refl (whole !)))) (no-more !)))) (from ! (stop !)) (init ! 10 refl (tt, (tt, (record { fits = room .0 }, tt)))) $
         calls-load-all ! mem run (mid ! fm (callees .load-all)) (named 1) ys refl room (named 0) ws k k-fits (asked .1) (λ ν δ. and-then ! (load ! (from ! (stop !)) (look ! 25 refl)) (and-then ! (load ! (from ! (stop !)) (look ! 9 refl)) (and-then ! (load ! (from ! (stop !)) (look ! 21 refl)) (no-more !)))) (λ z-len.
         land ! (from ! (stop !)) (init ! 14 refl (tt, tt)) $
-        calls-start ! mem run (mid ! fm (callees .start)) (no-more !) (λ c-is.
-        land ! (from ! (stop !)) (init ! 20 refl (typed-cursor 𝓤 H A W newCursor c-is)) $
+        move ! (2 ∷ 3 ∷ []) $ calls-start ! mem run (mid ! fm (callees .start)) (named 0) ws (and-then ! (load ! (from ! (stop !)) (look ! 26 refl)) (no-more !)) (λ c-is. move ! (2 ∷ 3 ∷ []) $
+        land ! (from ! (stop !)) (init ! 20 refl (typed-cursor 𝓤 H A W (newCursor ws) c-is)) $
         forget ! 14 refl $ forget ! 12 refl $ forget ! 10 refl $
         first ! $ blocks ! $ loops ! 𝓣 (less left) (less-wf left) Inv turn (starts c-is)))
       where
-        starts : IsCursor newCursor → At
+        starts : IsCursor (newCursor ws) → At
         starts is = record {
-          cursor = newCursor;
+          cursor = newCursor ws;
           es = loadedFrom ws k 0;
           cursor-is = is;
           sound = start-sound ws (asked .0);

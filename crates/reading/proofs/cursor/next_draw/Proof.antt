@@ -6,16 +6,16 @@ use Rattle.reading.proofs.cursor.next_draw.Statement.{statement}
 use Rattle.reading.proofs.cursor.next_draw.Tie as tie
 
 abbrev Inv-loop : tie.InvT-loop
-Inv-loop book bands c₀ c = Reached book c₀ c
+Inv-loop book c₀ c = Reached book c₀ c
 
 abbrev μ-loop : tie.MeasureT-loop
-μ-loop book bands c₀ c = left book c
+μ-loop book c₀ c = left book c
 
 loop-holds : tie.Need-loop-holds Inv-loop μ-loop
-loop-holds c = record { same = refl; sound = c .before .before .pre }
+loop-holds c = record { same = refl; sound = c .before .pre }
 
 next-step-requires : tie.Need-next-step-requires Inv-loop μ-loop
-next-step-requires c κs = (c .loop .inv .sound, c .before .bands-of .ensures)
+next-step-requires c κs = c .loop .inv .sound
 
 loop-less : tie.Need-loop-less Inv-loop μ-loop
 loop-less c = goes-on (c .before .before .before .before .loop .inv) (c .before .before .before .next-step .result) (c .before .before .before .next-step .ensures) (c .before .next .given .0 .0) (c .before .next .given .1) .1
@@ -40,7 +40,6 @@ next-draw-spec =
     (tie.spec
     Inv-loop
     μ-loop
-    (search needs)
     loop-holds
     next-step-requires
     (search needs)

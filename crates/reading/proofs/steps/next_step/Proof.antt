@@ -4,13 +4,13 @@ use Rattle.reading.proofs.steps.next_step.Statement.{statement}
 use Rattle.reading.proofs.steps.next_step.Tie as tie
 
 protections-step-requires : tie.Need-protections-step-requires
-protections-step-requires c κs = (c .before .before .before .pre .0, not-true _ (c .if1 .taken))
+protections-step-requires c κs = (c .before .before .before .pre, not-true _ (c .if1 .taken))
 
 set-step-requires : tie.Need-set-step-requires
-set-step-requires c κs = (c .before .before .before .before .pre .0, (not-false _ (c .before .if1 .left), (c .if2 .taken, c .before .before .before .before .pre .1)))
+set-step-requires c κs = (c .before .before .before .before .pre, (not-false _ (c .before .if1 .left), c .if2 .taken))
 
 item-step-requires : tie.Need-item-step-requires
-item-step-requires c κs = (c .before .before .before .before .pre .0, (not-false _ (c .before .if1 .left), c .if2 .left))
+item-step-requires c κs = (c .before .before .before .before .pre, (not-false _ (c .before .if1 .left), c .if2 .left))
 
 pub next-step-spec : {M : Type 1} → statement M
 next-step-spec =

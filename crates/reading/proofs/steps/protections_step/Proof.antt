@@ -5,7 +5,7 @@ use Rattle.reading.proofs.steps.protections_step.Tie as tie
 
 returns : tie.Need-returns
 returns c =
-    let e = c .before .before .before .before .before .before .before in
+    let e = c .before .before .before .before .before .before .before .before in
     let n = c .before .before .before .before .payload in
     let r = c .before .before .before .read-protections in
     let g = c .before .number .given in
@@ -13,7 +13,7 @@ returns c =
 
 returns-2 : tie.Need-returns-2
 returns-2 c =
-    let e = c .before .before .before .before .before .before .before .before .before in
+    let e = c .before .before .before .before .before .before .before .before .before .before in
     let n = c .before .before .before .before .before .before .payload in
     let r = c .before .before .before .before .before .read-protections in
     let g = c .before .before .before .at .given in
