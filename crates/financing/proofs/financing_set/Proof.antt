@@ -8,11 +8,9 @@ pub financing-set-spec : {M : Type 1} → statement M
 financing-set-spec =
     tie.close
     (tie.spec
-    (search needs)
-    (search needs)
+    (search needs) (search needs)
     (λ c bands. search set-faulty)
-    (search needs)
-    (search needs)
+    (search needs) (search needs)
     (λ c κs. search set-fits)
     (search needs)
     (λ c bands. search set-whole)

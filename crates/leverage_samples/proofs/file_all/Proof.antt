@@ -14,6 +14,5 @@ file-all-spec =
     (tie.spec
     (search needs)
     slice-aggregate-file-each-2
-    (search needs)
-    (search needs)
+    (search needs) (search needs)
     (search needs))

@@ -22,8 +22,7 @@ pub report-spec : {M : Type 1} → statement M
 report-spec =
     tie.close
     (tie.spec
-    (search needs)
-    (search needs)
+    (search needs) (search needs)
     publish-requires
     returns
     (search needs)

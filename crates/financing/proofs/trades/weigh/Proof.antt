@@ -20,9 +20,7 @@ weigh-spec =
     (tie.spec
     Inv-loop
     μ-loop
-    (search needs)
-    (search needs)
-    (search needs)
+    (search needs) (search needs) (search needs)
     (λ c. search at-first)
     (search needs)
     (λ c κs. search trade-there)

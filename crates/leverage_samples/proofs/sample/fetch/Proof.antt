@@ -14,6 +14,5 @@ fetch-spec =
     (tie.spec
     (search needs)
     slice-aggregate-read-full
-    (search needs)
-    (search needs)
+    (search needs) (search needs)
     (search needs))

@@ -19,7 +19,5 @@ file-lent-spec =
     slice-aggregate-file-alone
     (search needs)
     slice-aggregate-file-alone-2
-    (search needs)
-    (search needs)
-    (search needs)
+    (search needs) (search needs) (search needs)
     (search needs))

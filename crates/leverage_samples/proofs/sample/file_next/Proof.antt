@@ -25,17 +25,9 @@ pub file-next-spec : {M : Type 1} → statement M
 file-next-spec =
     tie.close
     (tie.spec
-    (search needs)
-    (search needs)
-    (search needs)
-    (search needs)
-    (search needs)
+    (search needs) (search needs) (search needs) (search needs) (search needs)
     load-requires
-    (search needs)
-    (search needs)
-    (search needs)
+    (search needs) (search needs) (search needs)
     file-lent-requires
-    (search needs)
-    (search needs)
-    (search needs)
+    (search needs) (search needs) (search needs)
     (search needs))

@@ -47,6 +47,5 @@ next-draw-spec =
     loop-again
     (search needs)
     returns
-    (search needs)
-    (search needs)
+    (search needs) (search needs)
     returns-2)

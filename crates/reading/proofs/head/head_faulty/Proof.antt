@@ -36,13 +36,11 @@ head-faulty-spec =
     tie.close
     (tie.spec
     returns
-    (search needs)
-    (search needs)
+    (search needs) (search needs)
     returns-2
     (search needs)
     returns-3
-    (search needs)
-    (search needs)
+    (search needs) (search needs)
     returns-4
     (search needs)
     returns-5)

@@ -56,10 +56,7 @@ pub financing-at-spec : {M : Type 1} → statement M
 financing-at-spec =
     tie.close
     (tie.spec
-    (search needs)
-    (search needs)
-    (search needs)
-    (search needs)
+    (search needs) (search needs) (search needs) (search needs)
     financing-set-requires
     (search needs)
     plus-requires

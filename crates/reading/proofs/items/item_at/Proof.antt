@@ -46,23 +46,13 @@ item-at-spec =
     tie.close
     (tie.spec
     returns
-    (search needs)
-    (search needs)
-    (search needs)
+    (search needs) (search needs) (search needs)
     assets-requires
-    (λ c. search needs)
-    (search needs)
-    (search needs)
-    (search needs)
-    (search needs)
-    (search needs)
-    (search needs)
+    (λ c. search needs) (search needs) (search needs) (search needs) (search needs) (search needs) (search needs)
     returns-3
     financing-at-requires
     (λ c. search needs)
     off-balance-items-requires
-    (λ c. search needs)
-    (search needs)
-    (search needs)
+    (λ c. search needs) (search needs) (search needs)
     returns-6
     returns-7)

@@ -31,9 +31,7 @@ protection-spec =
     tie.close
     (tie.spec
     returns
-    (search needs)
-    (search needs)
-    (search needs)
+    (search needs) (search needs) (search needs)
     returns-2
     (search needs)
     returns-3

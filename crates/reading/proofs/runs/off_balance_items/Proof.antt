@@ -95,13 +95,11 @@ off-balance-items-spec =
     (tie.spec
     Inv-loop
     μ-loop
-    (search needs)
-    (search needs)
+    (search needs) (search needs)
     loop-holds
     good-off-balance-requires
     off-balance-words-requires
-    (search needs)
-    (search needs)
+    (search needs) (search needs)
     add-notionals
     (λ c κs. search needs)
     add-unconverted

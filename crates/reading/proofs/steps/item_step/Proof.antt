@@ -37,12 +37,7 @@ item-step-spec =
     tie.close
     (tie.spec
     item-at-requires
-    (search needs)
-    (search needs)
-    (search needs)
-    (search needs)
-    (search needs)
-    (search needs)
+    (search needs) (search needs) (search needs) (search needs) (search needs) (search needs)
     returns
     returns-2
     returns-3

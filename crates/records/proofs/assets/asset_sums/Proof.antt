@@ -9,7 +9,5 @@ pub asset-sums-spec : {M : Type 1} → statement M
 asset-sums-spec =
     tie.close
     (tie.spec
-    (search needs)
-    (search needs)
-    (search needs)
+    (search needs) (search needs) (search needs)
     returns)

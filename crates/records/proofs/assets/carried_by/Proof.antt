@@ -22,11 +22,7 @@ pub carried-by-spec : {M : Type 1} → statement M
 carried-by-spec =
     tie.close
     (tie.spec
-    (search needs)
-    (search needs)
-    (search needs)
-    (search needs)
-    (search needs)
+    (search needs) (search needs) (search needs) (search needs) (search needs)
     mul-wide
     (search needs)
     returns)

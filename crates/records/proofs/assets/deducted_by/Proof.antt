@@ -21,9 +21,7 @@ pub deducted-by-spec : {M : Type 1} → statement M
 deducted-by-spec =
     tie.close
     (tie.spec
-    (search needs)
-    (search needs)
-    (search needs)
+    (search needs) (search needs) (search needs)
     mul-wide
     (search needs)
     returns)

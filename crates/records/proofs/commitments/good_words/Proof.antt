@@ -16,9 +16,7 @@ pub good-words-spec : {M : Type 1} → statement M
 good-words-spec =
     tie.close
     (tie.spec
-    (search needs)
-    (search needs)
-    (search needs)
+    (search needs) (search needs) (search needs)
     figure-requires
     (search needs)
     returns)

@@ -22,6 +22,5 @@ protection-cause-spec =
     (tie.spec
     (search needs)
     returns
-    (search needs)
-    (search needs)
+    (search needs) (search needs)
     returns-2)

@@ -48,14 +48,9 @@ ratio-spec =
     tie.close
     (tie.spec
     returns
-    (search needs)
-    (search needs)
-    (search needs)
-    (search needs)
+    (search needs) (search needs) (search needs) (search needs)
     below-zero-requires
     returns-2
-    (search needs)
-    (search needs)
-    (search needs)
+    (search needs) (search needs) (search needs)
     whole-requires
     returns-3)

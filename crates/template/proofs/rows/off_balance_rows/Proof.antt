@@ -18,10 +18,5 @@ pub off-balance-rows-spec : {M : Type 1} → statement M
 off-balance-rows-spec =
     tie.close
     (tie.spec
-    (search needs)
-    (search needs)
-    (search needs)
-    (search needs)
-    (search needs)
-    (search needs)
+    (search needs) (search needs) (search needs) (search needs) (search needs) (search needs)
     returns)

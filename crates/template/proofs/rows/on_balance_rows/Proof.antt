@@ -18,10 +18,5 @@ pub on-balance-rows-spec : {M : Type 1} → statement M
 on-balance-rows-spec =
     tie.close
     (tie.spec
-    (search needs)
-    (search needs)
-    (search needs)
-    (search needs)
-    (search needs)
-    (search needs)
+    (search needs) (search needs) (search needs) (search needs) (search needs) (search needs)
     returns)

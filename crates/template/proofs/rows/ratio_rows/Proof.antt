@@ -27,13 +27,7 @@ pub ratio-rows-spec : {M : Type 1} → statement M
 ratio-rows-spec =
     tie.close
     (tie.spec
-    (search needs)
-    (search needs)
-    (search needs)
-    (search needs)
-    (search needs)
+    (search needs) (search needs) (search needs) (search needs) (search needs)
     signed-requires-2
-    (search needs)
-    (search needs)
-    (search needs)
+    (search needs) (search needs) (search needs)
     returns)

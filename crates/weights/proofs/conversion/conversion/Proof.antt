@@ -19,11 +19,6 @@ pub conversion-spec : {M : Type 1} → statement M
 conversion-spec =
     tie.close
     (tie.spec
-    (search needs)
-    (search needs)
-    (search needs)
-    (search needs)
-    (search needs)
-    (search needs)
+    (search needs) (search needs) (search needs) (search needs) (search needs) (search needs)
     returns
     returns-2)

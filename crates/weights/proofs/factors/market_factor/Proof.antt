@@ -22,9 +22,5 @@ pub market-factor-spec : {M : Type 1} → statement M
 market-factor-spec =
     tie.close
     (tie.spec
-    (search needs)
-    (search needs)
-    (search needs)
-    (search needs)
-    (search needs)
+    (search needs) (search needs) (search needs) (search needs) (search needs)
     returns)
