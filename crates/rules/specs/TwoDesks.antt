@@ -36,7 +36,7 @@ abbrev pub AllWithinShare : Bands → List Placed → Type 0
 AllWithinShare bands [] = Unit {0}
 AllWithinShare bands (p ∷ ps) = WithinShare bands (p .item) × AllWithinShare bands ps
 
--- row k of a filing
+-- the row at place k of a filing, which is row k + 1
 abbrev pub rowOf : Filing → ℕ → ℤ
 rowOf f k = getD (f .rows) k (pos 0)
 

@@ -115,7 +115,7 @@ samples =
     ∷ sample (bookOf 0 0 []) (verdict 2 ∷ [])
     ∷ []
 
--- ---- the claim: each is accepted, and gives every listed figure, whatever the buffers held
+-- ---- the claim: each is accepted, and gives every listed figure, filed with one pair of buffers that hold another bank's data
 
 abbrev sumRows : Filing → List ℕ → ℤ
 sumRows f [] = pos 0
