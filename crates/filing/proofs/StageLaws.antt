@@ -11,7 +11,8 @@ use lib.Seq.{drop-at}
 use Rattle.rules.specs.declared.Draw.{Draw}
 use Rattle.rules.specs.declared.Entry.{Entry}
 use Rattle.rules.specs.Word.{word, kindOf, payloadOf, minusZero}
-use Rattle.rules.specs.Book.{Head, Placed}
+use Rattle.rules.specs.declared.Head.{Head}
+use Rattle.rules.specs.Book.{Placed}
 use Rattle.rules.specs.Run.{Run}
 use Rattle.rules.specs.Read.{firstRecord, headFaulty, headOf, itemsOf}
 use Rattle.rules.specs.Register.{blank, drawFault, drawn, drawsOver, Settled, unfit, settled, settle}

@@ -1,8 +1,8 @@
 // All of a filing but the rows: the reading, and the settling in the lent register.
 use crate::early::early;
-use crate::early::protections_of;
 use crate::stages::is_refused;
 use reading::Admission;
+use reading::head::head_of;
 use register::clear;
 use register::settle;
 use rules::Entry;
@@ -22,10 +22,10 @@ pub fn admit(book: &[u32], register: &mut [Entry]) -> Admission
     if number != causes::NONE {
         return Admission::Refused { number, place: 0 };
     }
-    let b = protections_of(book);
-    let a = settle(book, register, b);
+    let head = head_of(book);
+    let a = settle(book, register, head.protections);
     if is_refused(a) {
-        clear(register, b);
+        clear(register, head.protections);
         return a;
     }
     a

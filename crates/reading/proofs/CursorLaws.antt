@@ -9,8 +9,8 @@ use lib.Dec.{eqb}
 use lib.ListN.{length, drop}
 use Rattle.rules.specs.declared.Bands.{Bands}
 use Rattle.rules.specs.declared.Draw.{Draw}
+use Rattle.rules.specs.declared.Head.{Head}
 use Rattle.rules.specs.declared.Sums.{Sums}
-use Rattle.rules.specs.Word.{word, payloadOf}
 use Rattle.rules.specs.Run.{runFrom}
 use Rattle.rules.specs.Read.{firstRecord, headOf, protectionTurn, protectionsOf, itemsOf}
 use Rattle.rules.specs.Register.{drawsOver}
@@ -108,10 +108,10 @@ unfolding protectionsOf
 protections-within ws l = fine-run (length ws) perWord nothing (protectionTurn ws) (fine-protection ws) (headOf ws .protections) firstRecord l .within
 
 module _ {ws : List ℕ} {c : Cursor} (so : Sound ws c) (b : c .begun ≡ false)
-    (n : ℕ) (nq : n ≡ payloadOf (word ws 0)) (r : Protections) (q : r ≡ placeOf (runFrom (protectionTurn ws) n firstRecord)) where
+    (h : Head) (hq : h ≡ headOf ws) (r : Protections) (q : r ≡ placeOf (runFrom (protectionTurn ws) (h .protections) firstRecord)) where
   whole : r ≡ placeOf (protectionsOf ws)
-  unfolding protectionsOf headOf
-  whole = rw nq at q
+  unfolding protectionsOf
+  whole = rw hq at q
 
   pub step-faulty : (number place : ℕ) → r ≡ protections.Refused number place → Right ws c (Ended (Refused number place))
   unfolding placeOf recordsAhead readingOf itemsOf drawsOver

@@ -1,6 +1,6 @@
 // Where the reading of a book stands, and the next cover from there on.
 use crate::Admission;
-use crate::head::bands_of;
+use crate::head::head_of;
 use crate::steps::Step;
 use crate::steps::next_step;
 use derivatives::set::OpenSet;
@@ -36,13 +36,15 @@ impl Cursor {
     pub fn new(book: &[u32]) -> Cursor
         ensures { λ r. ⌜ r ≡ newCursor (now (book .entry)) ⌝ }
     {
+        let head = head_of(book);
+        let bands = head.bands;
         Cursor {
             begun: false,
             inside: false,
             at: limits::FIRST_RECORD,
             sums: no_sums(),
             set: OpenSet::new(),
-            bands: bands_of(book),
+            bands: bands,
         }
     }
 }

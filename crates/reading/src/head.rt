@@ -1,8 +1,12 @@
 // Kind 1, the head, and its Tier 1.
+use records::presence::word_at;
 use rules::Bands;
+use rules::Head;
 use rules::kinds;
 use rules::lengths;
 use rules::limits;
+use words::amount::gain;
+use words::amount::loss;
 use words::amount::minus_zero;
 use words::parts::kind;
 use words::parts::payload;
@@ -31,12 +35,19 @@ pub fn head_faulty(book: &[u32]) -> bool
     minus_zero(tier1)
 }
 
-// The bands of the book's factors end at 365 and 1,825 days.
-pub fn bands_of(book: &[u32]) -> Bands
-    ensures { λ r. ⌜ r ≡ headOf (now (book .entry)) .bands ⌝ }
+// Words that are not there are 0, so that every book has a head. The bands of its factors end at 365 and 1,825 days.
+pub fn head_of(book: &[u32]) -> Head
+    ensures { λ r. ⌜ r ≡ headOf (now (book .entry)) ⌝ }
 {
-    Bands {
-        short: 365,
-        medium: 1825,
+    let first = word_at(book, 0);
+    let tier1 = word_at(book, 1);
+    Head {
+        protections: payload(first) as usize,
+        gain: gain(tier1),
+        loss: loss(tier1),
+        bands: Bands {
+            short: 365,
+            medium: 1825,
+        },
     }
 }

@@ -1,6 +1,7 @@
 // One step of the reading: the protections, what stands where an item is due, or the members of a derivative set up to the next cover.
 use crate::Admission;
 use crate::cursor::Cursor;
+use crate::head::head_of;
 use crate::items::ItemAnswer;
 use crate::items::item_at;
 use crate::protections::Protections;
@@ -13,7 +14,6 @@ use derivatives::set::weigh;
 use records::sums::no_sums;
 use records::sums::plus;
 use rules::Draw;
-use words::parts::payload;
 ghost use mathlib.Core.Path.{_≡_};
 ghost use mathlib.Core.Bool.{true, false};
 ghost use denote.Ref.{now};
@@ -45,7 +45,8 @@ fn protections_step(book: &[u32], c: Cursor) -> Step
     ensures { λ r. ⌜ (ahead (now (book .entry)) c ≡ stepAhead (now (book .entry)) r) × SoundStep (now (book .entry)) c r ⌝ }
 {
     let bands = c.bands;
-    match read_protections(book, payload(book[0]) as usize) {
+    let head = head_of(book);
+    match read_protections(book, head.protections) {
         Protections::Refused { number, place } => Step::Ended(Admission::Refused { number, place }),
         Protections::Upto(at) => Step::On(Cursor {
             begun: true,

@@ -1,15 +1,8 @@
--- Document 01, "Records": a book as plain data, once it is read out of the words. Assumes nothing.
+-- Document 01, "Records": a book as plain data, once it is read out of the words. Kind 1, the head, is a struct of the code too. Assumes
+-- nothing.
 use Prim.Native.Nat.{ℕ, _+_}
 use mathlib.Core.Bool.{Bool}
 use mathlib.Core.List.{List, [], _∷_}
-use Rattle.rules.specs.declared.Bands.{Bands}
-
--- kind 1. Tier 1 is a gain less a loss, one of which is 0. The bands are those that the book's factors go by.
-pub record Head : Type 0 where
-  pub protections : ℕ
-  pub gain : ℕ
-  pub loss : ℕ
-  pub bands : Bands
 
 -- kind 3, a bought protection. A larger rank is more junior.
 pub record Protection : Type 0 where

@@ -6,8 +6,9 @@ use mathlib.Core.List.{List, _++_, map}
 use lib.Dec.{eqb, ltb}
 use lib.IntN.{ℤ}
 use lib.ListN.{length, drop, replicate}
+use Rattle.rules.specs.declared.Head.{Head}
 use Rattle.rules.specs.declared.Entry.{Entry}
-use Rattle.rules.specs.Book.{Head, Placed}
+use Rattle.rules.specs.Book.{Placed}
 use Rattle.rules.specs.Run.{Run}
 use Rattle.rules.specs.Read.{headFaulty, headOf, protectionsOf, itemsOf}
 use Rattle.rules.specs.Register.{blank, entryOf, drawsOver, Settled, unfit, settled, settle}

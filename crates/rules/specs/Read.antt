@@ -5,8 +5,9 @@ use mathlib.Core.Bool.{Bool, false, not, _||_, _&&_, cond}
 use mathlib.Core.List.{List}
 use lib.Dec.{eqb, leb, ltb}
 use lib.ListN.{length, drop}
+use Rattle.rules.specs.declared.Head.{Head}
 use Rattle.rules.specs.Word.{word, kindOf, payloadOf, fieldOf, bitOf, sizeOf, gainOf, lossOf, minusZero, amountsIn}
-use Rattle.rules.specs.Book.{Head, Protection, Asset, Trade, Cover, WrittenCredit, Member, trade, written, DerivativeSet, FinancingTrade, FinancingSet, OffBalance, Item, asset, derivatives, financing, offBalance, Placed}
+use Rattle.rules.specs.Book.{Protection, Asset, Trade, Cover, WrittenCredit, Member, trade, written, DerivativeSet, FinancingTrade, FinancingSet, OffBalance, Item, asset, derivatives, financing, offBalance, Placed}
 use Rattle.rules.specs.Run.{Turn, over, bad, some, Run, ended, runFrom, sound}
 use Rattle.rules.specs.Faults.{cause, protectionFault, assetFault, derivativeSetFault, tradeFault, writtenFault, coverFault, financingSetFault, financingTradeFault, offBalanceFault}
 

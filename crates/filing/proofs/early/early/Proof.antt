@@ -11,31 +11,23 @@ returns : tie.Need-returns
 unfolding earlyNumber
 returns c = simp (lt-ltb (2 ^ 20) (length (c .before .before .args .book .now)) (omega arith))
 
-head-faulty-requires : tie.Need-head-faulty-requires
-head-faulty-requires c κs = search needs
-
 returns-2 : tie.Need-returns-2
 unfolding earlyNumber
 returns-2 c = simp (le-ltb _ _ (c .before .before .if1 .left), ← (c .before .head-faulty .ensures), (c .if2 .taken))
 
-protections-of-requires : tie.Need-protections-of-requires
-protections-of-requires c κs = search needs
-
 returns-3 : tie.Need-returns-3
 unfolding earlyNumber
 returns-3 c =
-    let head-faulty = c .before .before .before .head-faulty in
-    let if1 = c .before .before .before .before .if1 in
-    simp (le-ltb _ _ (if1 .left), ← (head-faulty .ensures), (c .before .before .if2 .left), ← (c .before .protections-of .ensures), lt-ltb _ _ (c .if3 .taken))
+    let head-faulty = c .before .before .before .before .head-faulty in
+    let if1 = c .before .before .before .before .before .if1 in
+    simp (le-ltb _ _ (if1 .left), ← (head-faulty .ensures), (c .before .before .before .if2 .left), ← (c .before .before .head-of .ensures), lt-ltb _ _ (c .if3 .taken))
 
 returns-4 : tie.Need-returns-4
 unfolding earlyNumber
 returns-4 c =
-    let head-faulty = c .before .before .before .head-faulty in
-    let if1 = c .before .before .before .before .if1 in
-    simp (le-ltb _ _ (if1 .left), ← (head-faulty .ensures), (c .before .before .if2 .left), ← (c .before .protections-of .ensures), le-ltb _ _ (c .if3 .left))
+    let head-faulty = c .before .before .before .before .head-faulty in
+    let if1 = c .before .before .before .before .before .if1 in
+    simp (le-ltb _ _ (if1 .left), ← (head-faulty .ensures), (c .before .before .before .if2 .left), ← (c .before .before .head-of .ensures), le-ltb _ _ (c .if3 .left))
 
 pub early-spec : {M : Type 1} → statement M
-early-spec =
-    tie.close
-    (tie.spec returns head-faulty-requires returns-2 protections-of-requires returns-3 returns-4)
+early-spec = tie.close (tie.spec returns (search needs) returns-2 (search needs) returns-3 returns-4)
