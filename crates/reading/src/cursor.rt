@@ -8,6 +8,7 @@ use records::sums::no_sums;
 use rules::Bands;
 use rules::Draw;
 use rules::Sums;
+use rules::causes;
 use rules::limits;
 ghost use mathlib.Core.Path.{_≡_};
 ghost use denote.Ref.{now};
@@ -80,7 +81,7 @@ pub fn next_draw(book: &[u32], from: Cursor) -> NextCover
                     draw: draw,
                     cursor: next,
                     reading: Admission::Refused {
-                        number: 0,
+                        number: causes::NONE,
                         place: 0,
                     },
                 };
