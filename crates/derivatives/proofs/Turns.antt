@@ -72,12 +72,12 @@ module _ {ws : List ℕ} {t : Tally} {at : ℕ} (s : Standing ws at t) where
       faulty : (bands : Bands) → (f ≡ 0 → ⊥) → MemberRead bands ws at t (Refused f at)
       faulty bands n = (
         λ begin. member-bad bands ws begin t at (s .readable .within) f at
-            (turn ∙ record-faulty ws at kind (stands-is kind ws at k .1) fault next (λ z. n (q ∙ z)) ∙ ap (λ (x : ℕ). bad x at) (sym q)) n,
+            (turn ∙ record-faulty ws at (amountsOfKind kind) (ap amountsOfKind (stands-is kind ws at k .1)) fault next (λ z. n (q ∙ z)) ∙ ap (λ (x : ℕ). bad x at) (sym q)) n,
         s .readable .within,
       )
 
       good : f ≡ 0 → (lacks (amountsOfKind kind) ws at ≡ false) × (recordThen ws at fault next ≡ next (at + suc (amountsOfKind kind)))
-      good z = record-good ws at kind (stands-is kind ws at k .1) fault next (sym q ∙ z)
+      good z = record-good ws at (amountsOfKind kind) (ap amountsOfKind (stands-is kind ws at k .1)) fault next (sym q ∙ z)
 
       readable : f ≡ 0 → Readable (at + suc (amountsOfKind kind)) ws
       readable z = whole (amountsOfKind kind) refl (good z .0) head-there

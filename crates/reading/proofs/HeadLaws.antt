@@ -26,7 +26,7 @@ module _ (bands : Bands) {ws : List ℕ} {s : Sums} {at : ℕ} (number : ℕ) (n
   pub record-halts : {k : ℕ} → Met ws s at k → (k ≡ 15 → ⊥) → (f : ℕ) (next : ℕ → Turn Item) → itemOf (drop at ws) ≡ recordThen (drop at ws) 0 f next
       → number ≡ cond (lacks (amountsOfKind k) (drop at ws) 0) 6 f → fromItem bands ws s at ≡ endsAt (Refused number at)
   record-halts {k} m ke f next is q =
-      halted bands m ke number n (is ∙ record-faulty (drop at ws) 0 k (kind-here m) f next (λ z. n (q ∙ z)) ∙ ap (λ (x : ℕ). bad x 0) (sym q))
+      halted bands m ke number n (is ∙ record-faulty (drop at ws) 0 (amountsOfKind k) (ap amountsOfKind (kind-here m)) f next (λ z. n (q ∙ z)) ∙ ap (λ (x : ℕ). bad x 0) (sym q))
 
   pub set-halts : Met ws s at 4 → number ≡ setCause (partAt ws at) → fromItem bands ws s at ≡ endsAt (Refused number at)
   unfolding derivativeSetTurn

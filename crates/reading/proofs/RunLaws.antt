@@ -66,5 +66,5 @@ module _ (k : ℕ) (ke : k ≡ 15 → ⊥) (fault : List ℕ → ℕ) (item : Li
     one-more e bands =
         let m = sound-met e in
         onward bands ws t at f _ (at + (0 + suc (amountsOfKind k)))
-        (turn-here m ke ∙ ap (placed at) (is (drop at ws) (kind-here m) ∙ record-good (drop at ws) 0 k (kind-here m) (fault (drop at ws)) (some (item (drop at ws)) 0) (sound-cause e) .1))
+        (turn-here m ke ∙ ap (placed at) (is (drop at ws) (kind-here m) ∙ record-good (drop at ws) 0 (amountsOfKind k) (ap amountsOfKind (kind-here m)) (fault (drop at ws)) (some (item (drop at ws)) 0) (sound-cause e) .1))
         (plain at (drop at ws))

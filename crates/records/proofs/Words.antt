@@ -9,7 +9,7 @@ use native.Mathlib.Numerals.{sub-one}
 use borrow.Author.Tests.{le-leb, lt-leb, le-ltb, lt-ltb}
 use lib.Dec.{eqb}
 use lib.ListN.{length}
-use Rattle.rules.specs.Word.{word, kindOf, amountsOfKind}
+use Rattle.rules.specs.Word.{word, kindOf, amountsIn}
 use Rattle.rules.specs.Run.{Turn, bad, sound}
 use Rattle.rules.specs.Read.{lacks, recordThen, stands}
 use Rattle.laws.proofs.Records.{lacks-room}
@@ -49,22 +49,22 @@ standing-there ws at k n h q = simp (lt-ltb at (length ws) h, q)
 pub whole : (n : ℕ) {ws : List ℕ} {at : ℕ} {r : Bool} → r ≡ lacks n ws at → r ≡ false → Readable (suc at) ws → Readable (at + suc n) ws
 whole n {ws} {at} q e s = record { within = omega (arith, lacks-room n ws at (sym q ∙ e) (s .within)); short = s .short }
 
--- ---- a record of a known kind, by what is lacking and by its own fault
+-- ---- a record by how many amounts its own word has, by what is lacking and by its own fault
 
-module _ {A : Type 0} (ws : List ℕ) (at kind : ℕ) (k : kindOf (word ws at) ≡ kind) (f : ℕ) (next : ℕ → Turn A) where
-  pub turn-lacks : lacks (amountsOfKind kind) ws at ≡ true → recordThen ws at f next ≡ bad 6 at
+module _ {A : Type 0} (ws : List ℕ) (at n : ℕ) (k : amountsIn (word ws at) ≡ n) (f : ℕ) (next : ℕ → Turn A) where
+  pub turn-lacks : lacks n ws at ≡ true → recordThen ws at f next ≡ bad 6 at
   unfolding recordThen
   turn-lacks e = simp (k, e)
 
-  pub turn-fault : lacks (amountsOfKind kind) ws at ≡ false → (f ≡ 0 → ⊥) → recordThen ws at f next ≡ bad f at
+  pub turn-fault : lacks n ws at ≡ false → (f ≡ 0 → ⊥) → recordThen ws at f next ≡ bad f at
   unfolding recordThen
   turn-fault e h = simp (k, e) (go f h)
     where
-      go : (g : ℕ) → (g ≡ 0 → ⊥) → sound g at (next (at + suc (amountsOfKind kind))) ≡ bad g at
+      go : (g : ℕ) → (g ≡ 0 → ⊥) → sound g at (next (at + suc n)) ≡ bad g at
       go zero h = absurd (h refl)
       go (suc g) h = refl
 
-  pub turn-on : lacks (amountsOfKind kind) ws at ≡ false → f ≡ 0 → recordThen ws at f next ≡ next (at + suc (amountsOfKind kind))
+  pub turn-on : lacks n ws at ≡ false → f ≡ 0 → recordThen ws at f next ≡ next (at + suc n)
   unfolding recordThen
   turn-on e h = simp (k, e, h)
 
@@ -77,20 +77,20 @@ module _ (n : ℕ) (ws : List ℕ) (at f : ℕ) (l : Bool) (lq : l ≡ lacks n w
   cause-there e r q = q ∙ simp (← lq, e)
 
 -- and its turn by it
-module _ {A : Type 0} (ws : List ℕ) (at kind : ℕ) (k : kindOf (word ws at) ≡ kind) (f : ℕ) (next : ℕ → Turn A) where
+module _ {A : Type 0} (ws : List ℕ) (at n : ℕ) (k : amountsIn (word ws at) ≡ n) (f : ℕ) (next : ℕ → Turn A) where
   abbrev causeOf : ℕ
-  causeOf = cond (lacks (amountsOfKind kind) ws at) 6 f
+  causeOf = cond (lacks n ws at) 6 f
 
   pub record-faulty : (causeOf ≡ 0 → ⊥) → recordThen ws at f next ≡ bad causeOf at
-  record-faulty n = go (lacks (amountsOfKind kind) ws at) refl n
+  record-faulty h = go (lacks n ws at) refl h
     where
-      go : (b : Bool) → lacks (amountsOfKind kind) ws at ≡ b → (cond b 6 f ≡ 0 → ⊥) → recordThen ws at f next ≡ bad (cond b 6 f) at
-      go true q n = turn-lacks ws at kind k f next q
-      go false q n = turn-fault ws at kind k f next q n
+      go : (b : Bool) → lacks n ws at ≡ b → (cond b 6 f ≡ 0 → ⊥) → recordThen ws at f next ≡ bad (cond b 6 f) at
+      go true q h = turn-lacks ws at n k f next q
+      go false q h = turn-fault ws at n k f next q h
 
-  pub record-good : causeOf ≡ 0 → (lacks (amountsOfKind kind) ws at ≡ false) × (recordThen ws at f next ≡ next (at + suc (amountsOfKind kind)))
-  record-good e = go (lacks (amountsOfKind kind) ws at) refl e
+  pub record-good : causeOf ≡ 0 → (lacks n ws at ≡ false) × (recordThen ws at f next ≡ next (at + suc n))
+  record-good e = go (lacks n ws at) refl e
     where
-      go : (b : Bool) → lacks (amountsOfKind kind) ws at ≡ b → cond b 6 f ≡ 0 → (lacks (amountsOfKind kind) ws at ≡ false) × (recordThen ws at f next ≡ next (at + suc (amountsOfKind kind)))
+      go : (b : Bool) → lacks n ws at ≡ b → cond b 6 f ≡ 0 → (lacks n ws at ≡ false) × (recordThen ws at f next ≡ next (at + suc n))
       go true q z = let z : ⊥ = omega arith in absurd z
-      go false q z = (q, turn-on ws at kind k f next q z)
+      go false q z = (q, turn-on ws at n k f next q z)
