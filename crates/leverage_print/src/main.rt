@@ -8,6 +8,11 @@ use streams::end_line;
 use streams::gather;
 use streams::print_signed;
 
+// "holds 16,384 words": those of the longest book that it takes
+const OWN_WORDS: usize = 16384;
+
+const OWN_BYTES: usize = 4 * OWN_WORDS;
+
 // "22 lines of row number, space, value"
 fn print_rows(rows: [i64; limits::ROWS]) {
     let mut k = 0;
@@ -35,10 +40,10 @@ fn print_verdict(verdict: u32) {
 }
 
 fn main() {
-    // a byte more than 16,384 words have, so that more is seen
-    let mut bytes = [0u8; 65537];
+    // a byte more than its own words have, so that more is seen
+    let mut bytes = [0u8; OWN_BYTES + 1];
     let n = io::read_full(STDIN_FILENO, &mut bytes);
-    if n > 65536 {
+    if n > OWN_BYTES {
         io::write_all(STDOUT_FILENO, b"input 2\n");
         return;
     }
@@ -46,7 +51,7 @@ fn main() {
         io::write_all(STDOUT_FILENO, b"input 1\n");
         return;
     }
-    let mut words = [0u32; 16384];
+    let mut words = [0u32; OWN_WORDS];
     gather(&bytes, &mut words, n / 4);
     let mut rows = [0i64; limits::ROWS];
     match file_alone(&words[..n / 4], &mut rows) {
