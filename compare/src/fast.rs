@@ -162,9 +162,10 @@ fn assets(book: &[u32], mut place: usize, sums: &mut Sums) -> Outcome<usize> {
         check(word & 0x0FFF_FFFE == 0, 7, place)?;
         check((carrying | provision | deducted) < SIGN, 8, place)?;
         check(provision + deducted <= carrying, 9, place)?;
-        let counts = u64::from(!word & 1);
-        total_carried += counts * u64::from(carrying - provision);
-        total_deducted += counts * u64::from(deducted);
+        // By the mark: of a fiduciary asset only what row 2 takes out again.
+        let values = [carrying - provision, deducted];
+        total_carried += u64::from(values[(word & 1) as usize]);
+        total_deducted += u64::from(deducted);
         place += 4;
     }
     sums.carried += total_carried;

@@ -83,7 +83,8 @@ fn at_the_limit(random: &mut Random) -> Vec<u32> {
 }
 
 /// A book filled to the last word, or with one too many. Either it has assets
-/// only, or one netted set with the largest add-ons there can be.
+/// only, every other one fiduciary and deducted whole, or one netted set with
+/// the largest add-ons there can be.
 fn full(random: &mut Random) -> Vec<u32> {
     let largest = AMOUNT_LIMIT - 1;
     let mut words = vec![word(1, 0), 50];
@@ -95,8 +96,9 @@ fn full(random: &mut Random) -> Vec<u32> {
             words.extend([word(5, 4 | 255 << 3), value, largest, 65_535, 65_535]);
         }
     } else {
-        while words.len() + 5 <= LONGEST_BOOK {
+        while words.len() + 9 <= LONGEST_BOOK {
             words.extend([word(2, 0), largest, 1, 1]);
+            words.extend([word(2, 1), largest, 0, largest]);
         }
     }
     // Empty financing sets are single words.

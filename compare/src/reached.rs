@@ -118,11 +118,18 @@ impl Reached {
             self.came("kind, amount, extreme", [kind, place, amount]);
         }
         match kind {
+            2 => self.asset(record),
             4 => self.came("margin marks", [record.field(0, 5), 0, 0]),
             5 => self.trade(record),
             10 => self.came("conversion", [record.field(0, 4), record.field(4, 4), 0]),
             _ => {}
         }
+    }
+
+    fn asset(&mut self, asset: &Record) {
+        let above = |amount: usize| u32::from(asset.amounts[amount] > 0);
+        let numbers = [asset.field(0, 1), above(1), above(2)];
+        self.came("fiduciary, provision above 0, deduction above 0", numbers);
     }
 
     fn trade(&mut self, trade: &Record) {
@@ -167,6 +174,9 @@ fn list() -> Vec<Feature> {
             list.extend([0, 1].map(|value| ("kind, bit, value", [kind, bit, value])));
         }
     }
+    for numbers in three_bits() {
+        list.push(("fiduciary, provision above 0, deduction above 0", numbers));
+    }
     list.extend((0..32).map(|marks| ("margin marks", [marks, 0, 0])));
     list.extend(extremes());
     list.extend((0..7).map(|class| ("class", [class, 0, 0])));
@@ -182,12 +192,16 @@ fn list() -> Vec<Feature> {
         list.extend((0..12).map(|other| ("conversion", [class, other, 0])));
     }
     list.extend([4, 8].map(|kind| ("empty set", [kind, 0, 0])));
-    for marks in 0..8 {
-        let numbers = [marks & 1, marks >> 1 & 1, marks >> 2];
+    for numbers in three_bits() {
         list.push(("same day, marks of two financing trades", numbers));
     }
     list.extend(covers::list());
     list
+}
+
+/// Each way in which three things hold or not.
+fn three_bits() -> impl Iterator<Item = [u32; 3]> {
+    (0..8).map(|bits| [bits & 1, bits >> 1 & 1, bits >> 2])
 }
 
 /// The smallest and the largest that each amount of each kind can be.

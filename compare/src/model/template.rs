@@ -34,11 +34,15 @@ impl Template {
         self.rows[row - 1]
     }
 
+    /// The deduction goes first: row 1 has of a fiduciary asset just what row
+    /// 2 takes out again, and the mark removes the remainder.
     pub fn asset(&mut self, asset: &Asset) {
-        if !asset.fiduciary {
+        if asset.fiduciary {
+            self.units(1, asset.deducted);
+        } else {
             self.units(1, asset.carrying - asset.provision);
-            self.units(2, -asset.deducted);
         }
+        self.units(2, -asset.deducted);
     }
 
     pub fn derivatives(&mut self, head: &DerivativeHead, weighed: &WeighedDerivatives) {

@@ -12,7 +12,7 @@ use Rattle.rules.specs.Weighted.{weightedOf}
 use Rattle.rules.specs.Book.{Asset, DerivativeSet, FinancingTrade, FinancingSet, Item, asset, derivatives, financing, offBalance, Placed, total}
 use Rattle.rules.specs.Read.{headOf, itemsOf}
 use Rattle.rules.specs.Weigh.{Tally, netOf, marginOffsets, replacementOf, weightedIn, writtenIn, coversIn, cashNetted, excessOf}
-use Rattle.rules.specs.Rows.{AssetRows, assetRows, tallyIn, grossWeighted, keptWeighted, row1, row2, row4, row5, row6, row7, row8, row9, row10, row12, row13, row14, row15, row17, row18, sumOver, sumsOf, onBalance, ofDerivativeRows, ofFinancingRows, ofOffBalanceRows, exposureRow}
+use Rattle.rules.specs.Rows.{assetRows, tallyIn, grossWeighted, keptWeighted, row1, row2, row4, row5, row6, row7, row8, row9, row10, row12, row13, row14, row15, row17, row18, sumOver, sumsOf, onBalance, ofDerivativeRows, ofFinancingRows, ofOffBalanceRows, exposureRow}
 use Rattle.rules.specs.Filing.{outcomeOf, accepted}
 use Rattle.rules.proofs.Lists.{Every, total-le}
 use Rattle.rules.proofs.Lists
@@ -39,7 +39,7 @@ asset-rows-within : (a : Asset) → a .provision + a .deducted ≤ a .carrying �
 unfolding assetRows
 asset-rows-within a h = go (a .fiduciary)
   where
-    go : (b : Bool) → cond {A = AssetRows} b (record { carried = 0; deducted = 0 }) (record { carried = a .carrying - a .provision; deducted = a .deducted }) .deducted ≤ cond {A = AssetRows} b (record { carried = 0; deducted = 0 }) (record { carried = a .carrying - a .provision; deducted = a .deducted }) .carried
+    go : (b : Bool) → a .deducted ≤ cond b (a .deducted) (a .carrying - a .provision)
     go true = omega arith
     go false = omega arith
 

@@ -21,7 +21,7 @@ use Rattle.laws.proofs.MemberBounds.{perWord, memberWeight, financingWe
 -- ---- items
 
 abbrev pub itemWeight : Bands → Item → ℕ
-itemWeight bands (asset a) = 1000 * a .carrying + 1000 * a .deducted
+itemWeight bands (asset a) = 1000 * a .carrying + 2000 * a .deducted
 itemWeight bands (derivatives s) = 2000 * s .paid + 1000 * s .posted + total (memberWeight bands) (s .members)
 itemWeight bands (financing s) = total financingWeight (s .trades)
 itemWeight bands (offBalance o) = 2000 * o .notional

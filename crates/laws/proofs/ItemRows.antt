@@ -10,7 +10,7 @@ use Rattle.rules.specs.Factors.{conversionOf}
 use Rattle.rules.specs.Book.{Asset, DerivativeSet, FinancingTrade, FinancingSet, Item, asset, derivatives, financing, offBalance, Placed, total}
 use Rattle.rules.specs.Weighted.{weightedOf}
 use Rattle.rules.specs.Weigh.{Tally, tallyOf, netOf, marginOffsets, replacementOf, weightedIn, excessOf}
-use Rattle.rules.specs.Rows.{AssetRows, assetRows, tallyIn, keptWeighted, row1, row2, row4, row5, row6, row7, row8, row9, row10, row12, row13, row14, row15, row17, row18, sumOver}
+use Rattle.rules.specs.Rows.{assetRows, tallyIn, keptWeighted, row1, row2, row4, row5, row6, row7, row8, row9, row10, row12, row13, row14, row15, row17, row18, sumOver}
 use Rattle.rules.proofs.Lists.{total-le-all}
 use Rattle.rules.proofs.Weighted.{at-most}
 use Rattle.laws.specs.Exposure.{exposureOf}
@@ -35,21 +35,18 @@ either false x = omega arith
 
 -- ---- the pieces of an item
 
-carried-at-most : (a : Asset) → assetRows a .carried ≤ a .carrying
+-- d may pass c here, since no validity is asked for
+carried-at-most : (a : Asset) → assetRows a .carried ≤ a .carrying + a .deducted
 unfolding assetRows
 carried-at-most a = go (a .fiduciary)
   where
-    go : (b : Bool) → cond {A = AssetRows} b (record { carried = 0; deducted = 0 }) (record { carried = a .carrying - a .provision; deducted = a .deducted }) .carried ≤ a .carrying
+    go : (b : Bool) → cond b (a .deducted) (a .carrying - a .provision) ≤ a .carrying + a .deducted
     go true = omega arith
     go false = omega arith
 
 deducted-at-most : (a : Asset) → assetRows a .deducted ≤ a .deducted
 unfolding assetRows
-deducted-at-most a = go (a .fiduciary)
-  where
-    go : (b : Bool) → cond {A = AssetRows} b (record { carried = 0; deducted = 0 }) (record { carried = a .carrying - a .provision; deducted = a .deducted }) .deducted ≤ a .deducted
-    go true = omega arith
-    go false = omega arith
+deducted-at-most a = omega arith
 
 pub replacement-at-most : (s : DerivativeSet) (t : Tally) → replacementOf s t ≤ t .gains
 unfolding replacementOf

@@ -1,4 +1,4 @@
--- An item of one record without a fault, told by few tests of its words; and an asset's mark as a number. Assumes nothing.
+-- An item of one record without a fault, told by few tests of its words; and what counts of an asset. Assumes nothing.
 use Prim.Native.Nat.{ℕ, _+_, _-_, _*_, _/_, _%_, _^_, _≤_, _<_}
 use mathlib.Core.Path.{_≡_, refl, _∙_}
 use mathlib.Core.Bool.{Bool, true, false, not, _&&_, _||_, cond, and-false}
@@ -12,10 +12,9 @@ use lib.Seq.{getD-drop}
 use Rattle.rules.specs.Word.{word, kindOf, bitOf, payloadOf, fieldOf, sizeOf, faultyAmount}
 use Rattle.rules.specs.Faults.{cause, assetFault, offBalanceFault}
 use Rattle.rules.specs.Read.{lacks, assetAt}
-use Rattle.rules.specs.Rows.{AssetRows, assetRows}
+use Rattle.rules.specs.Rows.{assetRows}
 use Rattle.rules.proofs.Lists.{and-right}
 use Rattle.words.proofs.Both.{as-both}
-use Rattle.words.proofs.Marks.{times-mark}
 use Rattle.weights.proofs.Figures.{no-figure}
 use Rattle.records.specs.declared.assets.AssetWords.{AssetWords}
 use Rattle.records.specs.declared.commitments.OffBalanceWords.{OffBalanceWords}
@@ -131,28 +130,18 @@ good-within a e =
     let l = leb-true (sizeOf (a .provision) + sizeOf (a .deducted)) (sizeOf (a .carrying)) (and-right (eqb (kindOf (a .head)) 2 && not (leb 2 (payloadOf (a .head))) && amounts) _ e) in
     omega arith
 
--- ---- a mark that is multiplied
+-- ---- what counts of an asset
 
-module _ (a : AssetWords) {own : ℕ} (q : own ≡ cond (not (bitOf 0 (a .head))) 1 0) where
-  -- what counts of an asset, by its mark
-  abbrev rowsBy : Bool → AssetRows
-  rowsBy b = cond b (record { carried = 0; deducted = 0 }) (record { carried = sizeOf (a .carrying) - sizeOf (a .provision); deducted = sizeOf (a .deducted) })
+-- the mark chooses between d and c − p
+pub carried-is : (a : AssetWords) {r deducted own : ℕ} {fiduciary : Bool}
+    → r ≡ cond fiduciary deducted own → fiduciary ≡ bitOf 0 (a .head) → deducted ≡ sizeOf (a .deducted) → own ≡ sizeOf (a .carrying) - sizeOf (a .provision)
+    → r ≡ assetRows (assetAt (assetList a)) .carried
+unfolding assetRows assetAt
+carried-is a q m d o = cc
 
-  pub own-carried : own * (sizeOf (a .carrying) - sizeOf (a .provision)) ≡ assetRows (assetAt (assetList a)) .carried
-  unfolding assetRows assetAt
-  own-carried = times-mark (not (bitOf 0 (a .head))) own _ q ∙ go (bitOf 0 (a .head))
-    where
-      go : (b : Bool) → cond (not b) (sizeOf (a .carrying) - sizeOf (a .provision)) 0 ≡ rowsBy b .carried
-      go true = refl
-      go false = refl
-
-  pub own-deducted : own * sizeOf (a .deducted) ≡ assetRows (assetAt (assetList a)) .deducted
-  unfolding assetRows assetAt
-  own-deducted = times-mark (not (bitOf 0 (a .head))) own _ q ∙ go (bitOf 0 (a .head))
-    where
-      go : (b : Bool) → cond (not b) (sizeOf (a .deducted)) 0 ≡ rowsBy b .deducted
-      go true = refl
-      go false = refl
+pub deducted-is : (a : AssetWords) {r : ℕ} → r ≡ sizeOf (a .deducted) → r ≡ assetRows (assetAt (assetList a)) .deducted
+unfolding assetRows assetAt
+deducted-is a e = e
 
 -- the unconverted part of a notional is small
 pub unconverted-small : (figure x : ℕ) → x < 2 ^ 27 → (1000 - figure) * x ≤ 1000 * 2 ^ 27

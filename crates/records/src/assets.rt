@@ -11,8 +11,8 @@ use words::amount::plain_amount;
 use words::amount::size;
 use words::causes::cause;
 use words::numbers::both;
+use words::numbers::chosen;
 use words::numbers::either;
-use words::numbers::one_if;
 use words::numbers::wide;
 use words::parts::bit;
 use words::parts::payload;
@@ -111,21 +111,21 @@ pub fn asset_cause(part: &[u32]) -> u32
     asset_fault(asset_words(part, 0))
 }
 
-// "1: c − p of assets not fiduciary": the mark is multiplied, so that no branch hangs on it.
+// "1: c − p of assets not fiduciary", and d of fiduciary ones: the mark chooses between two values, so that no branch hangs on it.
 pub fn carried_by(a: AssetWords) -> u64
     requires { ⌜ sizeOf (a .provision) ≤ sizeOf (a .carrying) ⌝ }
     ensures { λ r. ⌜ r ≡ assetRows (assetAt (assetList a)) .carried ⌝ }
 {
-    let own = one_if(!bit(a.head, payloads::ASSET_FIDUCIARY));
-    wide(own * (size(a.carrying) - size(a.provision)))
+    let deducted = wide(size(a.deducted));
+    let own = wide(size(a.carrying) - size(a.provision));
+    chosen(bit(a.head, payloads::ASSET_FIDUCIARY), deducted, own)
 }
 
-// "2: −d of those."
+// "2: −d", of fiduciary assets too.
 pub fn deducted_by(a: AssetWords) -> u64
     ensures { λ r. ⌜ r ≡ assetRows (assetAt (assetList a)) .deducted ⌝ }
 {
-    let own = one_if(!bit(a.head, payloads::ASSET_FIDUCIARY));
-    wide(own * size(a.deducted))
+    wide(size(a.deducted))
 }
 
 pub fn asset_sums(carried: u64, deducted: u64) -> Sums

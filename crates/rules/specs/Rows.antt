@@ -11,15 +11,15 @@ use Rattle.rules.specs.Ratio.{tier1Of, ratioOf}
 use Rattle.rules.specs.Book.{Asset, DerivativeSet, FinancingTrade, FinancingSet, OffBalance, Item, asset, derivatives, financing, offBalance, Placed, total}
 use Rattle.rules.specs.Weigh.{Tally, tallyOf, replacementOf, weightedIn, marginOffsets, writtenIn, coversIn, cashNetted, excessOf}
 
--- ---- assets (paragraphs 15 to 17): nothing of a fiduciary one
+-- ---- assets (paragraphs 15 to 17). "The deduction goes first": a fiduciary one puts d into row 1, whatever its provision, row 2 takes d
+-- out again as of any asset, and the mark removes the remainder (request A.9).
 
 pub record AssetRows : Type 0 where
   pub carried : ℕ
   pub deducted : ℕ
 
 unfoldable pub assetRows : Asset → AssetRows
-assetRows a =
-    cond (a .fiduciary) (record { carried = 0; deducted = 0 }) (record { carried = a .carrying - a .provision; deducted = a .deducted })
+assetRows a = record { carried = cond (a .fiduciary) (a .deducted) (a .carrying - a .provision); deducted = a .deducted }
 
 -- ---- what a derivative set has of the rows 5, 8 and 10, by its tally
 
@@ -35,14 +35,14 @@ keptWeighted bands s = weightedIn s (tallyIn bands s) (tallyIn bands s .addOn - 
 
 -- ---- by the row
 
--- c − p of assets not fiduciary, plus all margin paid
+-- c − p of assets not fiduciary and d of fiduciary ones, plus all margin paid
 abbrev pub row1 : Bands → Item → ℕ
 row1 bands (asset a) = 1000 * assetRows a .carried
 row1 bands (derivatives s) = 1000 * s .paid
 row1 bands (financing s) = 0
 row1 bands (offBalance o) = 0
 
--- d of those
+-- d of all assets
 abbrev pub row2 : Bands → Item → ℕ
 row2 bands (asset a) = 1000 * assetRows a .deducted
 row2 bands (derivatives s) = 0

@@ -10,7 +10,7 @@ use Rattle.rules.specs.declared.Bands.{Bands}
 use Rattle.rules.specs.Weighted.{weightedOf}
 use Rattle.rules.specs.Book.{Asset, Member, DerivativeSet, FinancingTrade, FinancingSet, Item, asset, financing, Placed, total}
 use Rattle.rules.specs.Weigh.{Tally, tallyOf, netOf, marginOffsets, replacementOf, weightedIn, writtenIn, coversIn, onDay, nettedOn, lastDay, cashNetted, excessOf}
-use Rattle.rules.specs.Rows.{AssetRows, assetRows, tallyIn, sumOver}
+use Rattle.rules.specs.Rows.{assetRows, tallyIn, sumOver}
 use Rattle.rules.proofs.Lists.{Pairs, pairs-total}
 use Rattle.rules.proofs.Lists
 use Rattle.rules.proofs.Weighted.{at-most}
@@ -43,14 +43,12 @@ both-kept false b c d k h = λ e. let z : _≡_ {A = ℕ} 0 1 = cc in absurd (om
 
 -- ---- assets
 
+-- what the mark leaves of row 1, row 2 takes out
 asset-less : (a b : Asset) → MoreAsset a b → assetRows b .carried - assetRows b .deducted ≤ assetRows a .carried - assetRows a .deducted
 unfolding assetRows
 asset-less a b m = rw (← m .carrying, ← m .provision, ← m .deducted) (go (a .fiduciary) (b .fiduciary) (m .fiduciary) (a .carrying - a .provision) (a .deducted))
   where
-    of : Bool → ℕ → ℕ → AssetRows
-    of f x y = cond f (record { carried = 0; deducted = 0 }) (record { carried = x; deducted = y })
-
-    go : (f g : Bool) → Kept f g → (x y : ℕ) → of g x y .carried - of g x y .deducted ≤ of f x y .carried - of f x y .deducted
+    go : (f g : Bool) → Kept f g → (x y : ℕ) → cond g y x - y ≤ cond f y x - y
     go true true k x y = omega arith
     go true false k x y = lost k
     go false true k x y = omega arith

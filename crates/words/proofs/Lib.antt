@@ -1,4 +1,3 @@
 pub mod Masks
 pub mod Both
 pub mod Padded
-pub mod Marks

@@ -15,6 +15,25 @@ fn printed_case() {
 }
 
 #[test]
+fn fiduciary_and_deducted() {
+    let rows_of = |fiduciary, amounts: &[i32]| {
+        let rows = Book::new(0, 1).add(2, fiduciary, amounts).rows();
+        [1, 2, 3, 21].map(|row| rows.row(row))
+    };
+    // The provision plays no part where the mark is set.
+    for provision in [0, 20, 90] {
+        let amounts = &[100, provision, 10];
+        assert_eq!(rows_of(1, amounts), [10_000, -10_000, 0, 0]);
+    }
+    assert_eq!(rows_of(1, &[100, 20, 0]), [0; 4]);
+    assert_eq!(rows_of(1, &[100, 0, 100]), [100_000, -100_000, 0, 0]);
+    assert_eq!(
+        rows_of(0, &[100, 20, 10]),
+        [80_000, -10_000, 70_000, 70_000]
+    );
+}
+
+#[test]
 fn rates_by_band() {
     for (days, add_on) in [(365, 0), (366, 5_000), (1_825, 5_000), (1_826, 15_000)] {
         let book = Book::new(0, 0).add(4, 0, &[0, 0, 0]);
