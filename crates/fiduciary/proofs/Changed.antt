@@ -15,7 +15,7 @@ use Rattle.rules.specs.Read.{headOf}
 use Rattle.rules.specs.Rows.{sumOver, sumsOf, rowsOf}
 use Rattle.rules.specs.Filing.{Outcome, early, refused, accepted, outcomeOf, Filing, filingOf, filing}
 use Rattle.fiduciary.specs.Former.{formerSums, formerFilingOf, formerFiling}
-use Rattle.fiduciary.specs.Claims.{fiduciaryDeduction, DeductionShown, DeductedFiduciary, Among, HoldsDeducted, ChangedJustThere}
+use Rattle.fiduciary.specs.Claims.{fiduciaryDeduction, DeductionShown, DeductedFiduciary, OneAmong, HoldsDeducted, ChangedJustThere}
 use Rattle.fiduciary.proofs.Shown.{assets-shown, accepted-shown, none-shown}
 
 -- ---- nothing shown, nothing changed
@@ -42,11 +42,11 @@ item-found (derivatives s) = inr refl
 item-found (financing s) = inr refl
 item-found (offBalance o) = inr refl
 
-found : (ps : List Placed) → Among ps ⊎ (sumOver fiduciaryDeduction ps ≡ 0)
+found : (ps : List Placed) → OneAmong ps ⊎ (sumOver fiduciaryDeduction ps ≡ 0)
 found [] = inr refl
 found (p ∷ ps) = go (item-found (p .item)) (found ps)
   where
-    go : DeductedFiduciary (p .item) ⊎ (fiduciaryDeduction (p .item) ≡ 0) → Among ps ⊎ (sumOver fiduciaryDeduction ps ≡ 0) → Among (p ∷ ps) ⊎ (sumOver fiduciaryDeduction (p ∷ ps) ≡ 0)
+    go : DeductedFiduciary (p .item) ⊎ (fiduciaryDeduction (p .item) ≡ 0) → OneAmong ps ⊎ (sumOver fiduciaryDeduction ps ≡ 0) → OneAmong (p ∷ ps) ⊎ (sumOver fiduciaryDeduction (p ∷ ps) ≡ 0)
     go (inl d) rest = inl (record { placed = p; held = List.List·Memᴰ·head refl; is = d })
     go (inr z) (inl h) = inl (record { placed = h .placed; held = List.List·Memᴰ·tail (h .held); is = h .is })
     go (inr z) (inr y) = inr (omega arith)
@@ -62,7 +62,7 @@ one-of-all : {p : Placed} {ps : List Placed} → List·Memᴰ p ps → fiduciary
 one-of-all (List.List·Memᴰ·head e) = rw e (omega arith)
 one-of-all (List.List·Memᴰ·tail m) = omega (arith, one-of-all m)
 
-above : (ps : List Placed) → Among ps → 0 < sumOver fiduciaryDeduction ps
+above : (ps : List Placed) → OneAmong ps → 0 < sumOver fiduciaryDeduction ps
 above ps h = omega (arith, one-of-all (h .held), item-above (h .placed .item) (h .is))
 
 -- ---- the answers
@@ -73,7 +73,7 @@ module _ (head : Head) (rows : List ℤ) (register : List Entry) where
   changed (refused number place) n = n refl
   changed (accepted ps left) n = go (found ps)
     where
-      go : Among ps ⊎ (sumOver fiduciaryDeduction ps ≡ 0) → Among ps
+      go : OneAmong ps ⊎ (sumOver fiduciaryDeduction ps ≡ 0) → OneAmong ps
       go (inl h) = h
       go (inr z) = absurd (n (unchanged _ _ (rw z at (accepted-shown head ps left rows register))))
 

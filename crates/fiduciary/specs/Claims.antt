@@ -62,7 +62,8 @@ DeductedFiduciary (derivatives s) = ⊥
 DeductedFiduciary (financing s) = ⊥
 DeductedFiduciary (offBalance o) = ⊥
 
-pub record Among (items : List Placed) : Type 0 where
+-- one of the items is such an asset
+pub record OneAmong (items : List Placed) : Type 0 where
   pub placed : Placed
   pub held : List·Memᴰ placed items
   pub is : DeductedFiduciary (placed .item)
@@ -71,7 +72,7 @@ pub record Among (items : List Placed) : Type 0 where
 abbrev pub HoldsDeducted : Outcome → Type 0
 HoldsDeducted (early number) = ⊥
 HoldsDeducted (refused number place) = ⊥
-HoldsDeducted (accepted items left) = Among items
+HoldsDeducted (accepted items left) = OneAmong items
 
 -- an answer changes exactly there
 abbrev pub ChangedJustThere : Type 0
