@@ -10,7 +10,7 @@ use lib.IntN.{ℤ, pos, natAbs}
 use lib.ListN.{length, getD}
 use Rattle.rules.specs.declared.Entry.{Entry}
 use Rattle.rules.specs.declared.Head.{Head}
-use Rattle.rules.specs.Book.{Item, asset, derivatives, financing, offBalance, Placed}
+use Rattle.rules.specs.Book.{Item, asset, derivatives, financing, offBalance, Placed, total}
 use Rattle.rules.specs.Read.{headOf}
 use Rattle.rules.specs.Rows.{sumOver, sumsOf, rowsOf}
 use Rattle.rules.specs.Filing.{Outcome, early, refused, accepted, outcomeOf, Filing, filingOf, filing}
@@ -57,13 +57,13 @@ item-above (derivatives s) d = absurd d
 item-above (financing s) d = absurd d
 item-above (offBalance o) d = absurd d
 
--- one of the items shows no more than all
-one-of-all : {p : Placed} {ps : List Placed} → List·Memᴰ p ps → fiduciaryDeduction (p .item) ≤ sumOver fiduciaryDeduction ps
-one-of-all (List.List·Memᴰ·head e) = rw e (omega arith)
-one-of-all (List.List·Memᴰ·tail m) = omega (arith, one-of-all m)
+-- a sum is at least what one of the list adds to it
+one-of-all : {A : Type 0} (f : A → ℕ) {x : A} {xs : List A} → List·Memᴰ x xs → f x ≤ total f xs
+one-of-all f (List.List·Memᴰ·head e) = rw e (omega arith)
+one-of-all f (List.List·Memᴰ·tail m) = omega (arith, one-of-all f m)
 
 above : (ps : List Placed) → OneAmong ps → 0 < sumOver fiduciaryDeduction ps
-above ps h = omega (arith, one-of-all (h .held), item-above (h .placed .item) (h .is))
+above ps h = omega (arith, one-of-all (λ (p : Placed). fiduciaryDeduction (p .item)) (h .held), item-above (h .placed .item) (h .is))
 
 -- ---- the answers
 

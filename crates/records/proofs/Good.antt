@@ -133,11 +133,11 @@ good-within a e =
 -- ---- what counts of an asset
 
 -- the mark chooses between d and c − p
-pub carried-is : (a : AssetWords) {r deducted own : ℕ} {fiduciary : Bool}
-    → r ≡ cond fiduciary deducted own → fiduciary ≡ bitOf 0 (a .head) → deducted ≡ sizeOf (a .deducted) → own ≡ sizeOf (a .carrying) - sizeOf (a .provision)
+pub carried-is : (a : AssetWords) {r deducted net : ℕ} {fiduciary : Bool}
+    → r ≡ cond fiduciary deducted net → fiduciary ≡ bitOf 0 (a .head) → deducted ≡ sizeOf (a .deducted) → net ≡ sizeOf (a .carrying) - sizeOf (a .provision)
     → r ≡ assetRows (assetAt (assetList a)) .carried
 unfolding assetRows assetAt
-carried-is a q m d o = cc
+carried-is a q m d n = cc
 
 pub deducted-is : (a : AssetWords) {r : ℕ} → r ≡ sizeOf (a .deducted) → r ≡ assetRows (assetAt (assetList a)) .deducted
 unfolding assetRows assetAt

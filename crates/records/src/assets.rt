@@ -111,17 +111,19 @@ pub fn asset_cause(part: &[u32]) -> u32
     asset_fault(asset_words(part, 0))
 }
 
-// "1: c − p of assets not fiduciary", and d of fiduciary ones: the mark chooses between two values, so that no branch hangs on it.
+// "1: c − p of assets not fiduciary", and d of fiduciary ones (request A.9): the mark chooses between two values, so that no branch hangs
+// on it.
 pub fn carried_by(a: AssetWords) -> u64
     requires { ⌜ sizeOf (a .provision) ≤ sizeOf (a .carrying) ⌝ }
     ensures { λ r. ⌜ r ≡ assetRows (assetAt (assetList a)) .carried ⌝ }
 {
     let deducted = wide(size(a.deducted));
-    let own = wide(size(a.carrying) - size(a.provision));
-    chosen(bit(a.head, payloads::ASSET_FIDUCIARY), deducted, own)
+    let net_of_provision = wide(size(a.carrying) - size(a.provision));
+    let fiduciary = bit(a.head, payloads::ASSET_FIDUCIARY);
+    chosen(fiduciary, deducted, net_of_provision)
 }
 
-// "2: −d", of fiduciary assets too.
+// "2: −d", of fiduciary assets too: the deduction goes first.
 pub fn deducted_by(a: AssetWords) -> u64
     ensures { λ r. ⌜ r ≡ assetRows (assetAt (assetList a)) .deducted ⌝ }
 {
