@@ -3,4 +3,4 @@
 pub mod addon;
 pub mod conversion;
 pub mod factors;
-mod share;
+pub mod share;
