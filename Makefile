@@ -5,7 +5,7 @@
 # make printing: hold the printing program to that implementation, on the books in compare/books and on bad input.
 # make compare: file a million generated books through the static library and through that implementation.
 # make example: build and run include/example.c and the two callers in README.md.
-# make bench:   time the library and Rust on the same books.
+# make bench:   time the library and Rust on the same books, and the weighted add-on in three ways.
 BOOK = compare/books/sample.txt
 BOOKS = 1000000
 SEED = 1
@@ -58,10 +58,10 @@ printer:
 	@test -x target/bin/leverage_print || echo "proving leverage_print: some minutes, once" >&2
 	@rt check leverage_print > /dev/null 2>&1 || rt check leverage_print
 
-# The implementation in compare/ alone, and with the library.
+# The implementation in compare/ alone, and with the library and the benchmark's archive.
 second:
 	@$(CARGO) --target-dir ../target/model
 
 library:
-	@rt staticlib leverage > /dev/null 2>&1 || rt staticlib leverage
+	@for crate in leverage addon_bench; do rt staticlib $$crate > /dev/null 2>&1 || rt staticlib $$crate || exit 1; done
 	@LEVERAGE_LIB="$(CURDIR)/target/staticlib" && export LEVERAGE_LIB && $(CARGO) --features library --target-dir ../target/compare

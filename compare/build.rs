@@ -8,7 +8,9 @@ fn main() {
     }
     let folder = env::var("LEVERAGE_LIB")
         .expect("the feature `library` needs the library's folder in LEVERAGE_LIB");
-    println!("cargo:rerun-if-changed={folder}/libleverage.a");
     println!("cargo:rustc-link-search=native={folder}");
-    println!("cargo:rustc-link-lib=static=leverage");
+    for archive in ["leverage", "addon_bench"] {
+        println!("cargo:rerun-if-changed={folder}/lib{archive}.a");
+        println!("cargo:rustc-link-lib=static={archive}");
+    }
 }

@@ -1,4 +1,5 @@
-//! The library's boundary, and the only unsafe code of the package.
+//! The boundary of the library and of the benchmark's archive, and the only
+//! unsafe code of the package.
 
 use crate::model::{Answer, Entry};
 
@@ -32,4 +33,35 @@ pub fn file(book: &[u32], rows: &mut [i64], register: &mut [Entry]) -> Answer {
         place: (packed >> 16) as usize,
         verdict: (packed >> 8 & 0xFF) as u32,
     }
+}
+
+/// The weighted add-on, worked out in three ways for the benchmark.
+mod archive {
+    extern "C" {
+        pub fn addon_directly(add_on: u64, gross: u64, losses: u64) -> u64;
+        pub fn addon_by_share(add_on: u64, gross: u64, losses: u64) -> u64;
+        pub fn addon_by_halving(add_on: u64, gross: u64, losses: u64) -> u64;
+    }
+}
+
+/// What the archive answers to numbers that it does not take.
+const REFUSAL: u64 = u64::MAX;
+
+fn answered(answer: u64) -> Option<u64> {
+    (answer != REFUSAL).then_some(answer)
+}
+
+pub fn addon_directly(add_on: u64, gross: u64, losses: u64) -> Option<u64> {
+    // SAFETY: the archive's functions take all numbers, and no pointer.
+    answered(unsafe { archive::addon_directly(add_on, gross, losses) })
+}
+
+pub fn addon_by_share(add_on: u64, gross: u64, losses: u64) -> Option<u64> {
+    // SAFETY: as above.
+    answered(unsafe { archive::addon_by_share(add_on, gross, losses) })
+}
+
+pub fn addon_by_halving(add_on: u64, gross: u64, losses: u64) -> Option<u64> {
+    // SAFETY: as above.
+    answered(unsafe { archive::addon_by_halving(add_on, gross, losses) })
 }
