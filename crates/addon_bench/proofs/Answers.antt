@@ -13,22 +13,20 @@ use Rattle.addon_bench.specs.Answered.{refusal, refuses, answered}
 pub record Taken (x g : ℕ) : Type 0 where
   pub some : 0 < g
   pub fits : g < 2 ^ 59
+  pub answers : (l n r : ℕ) → n ≡ g - l → r ≡ weightedOf x g n → r ≡ answered x g l
 
 module _ (x g : ℕ) (b : Bool) (is : b ≡ refuses x g) where
   pub refusing : (l : ℕ) → b ≡ true → refusal ≡ answered x g l
   unfolding answered
   refusing l e = simp (sym is ∙ e)
 
-  pub taking : (l r : ℕ) → b ≡ false → r ≡ weightedOf x g (g - l) → r ≡ answered x g l
-  unfolding answered
-  taking l r e h = simp (sym is ∙ e, h)
-
   pub taken : b ≡ false → Taken x g
+  unfolding answered
   taken e =
-      let h = or-right (eqb x refusal) _ (sym is ∙ e) in
-      let some = eqb-false g 0 (or-left (eqb g 0) _ h) in
-      let fits = leb-false (2 ^ 59) g (or-right (eqb g 0) _ h) in
-      record { some = omega arith; fits = omega arith }
+      let none = or-right (eqb x refusal) _ (sym is ∙ e) in
+      let some = eqb-false g 0 (or-left (eqb g 0) _ none) in
+      let fits = leb-false (2 ^ 59) g (or-right (eqb g 0) _ none) in
+      record { some = omega arith; fits = omega arith; answers = λ l n r n-is h. h ∙ simp (sym is ∙ e, n-is) }
 
 -- no other answer to numbers of 64 bits is the refusal
 pub told-apart : (x g l : ℕ) → x ≤ refusal → refuses x g ≡ false → answered x g l < refusal

@@ -17,15 +17,31 @@ fn refused(x: u64, gross: u64) -> bool
     either(x == REFUSAL, either(gross == 0, GROSS_LIMIT <= gross))
 }
 
-// As the product works it out.
-#[no_mangle]
-pub extern "C" fn addon_directly(x: u64, gross: u64, losses: u64) -> u64
+enum Way {
+    Directly,
+    Share,
+    Halving,
+}
+
+fn answer(way: Way, x: u64, gross: u64, losses: u64) -> u64
     ensures { λ r. ⌜ r ≡ answered x gross losses ⌝ }
 {
     if refused(x, gross) {
         return REFUSAL;
     }
-    weighted(x, gross, losses)
+    match way {
+        Way::Directly => weighted(x, gross, losses),
+        Way::Share => by_share(x, gross, less(gross, losses)),
+        Way::Halving => by_halving(x, gross, less(gross, losses)),
+    }
+}
+
+// As the product works it out.
+#[no_mangle]
+pub extern "C" fn addon_directly(x: u64, gross: u64, losses: u64) -> u64
+    ensures { λ r. ⌜ r ≡ answered x gross losses ⌝ }
+{
+    answer(Way::Directly, x, gross, losses)
 }
 
 // By the share alone, as the product did before request A.5.
@@ -33,10 +49,7 @@ pub extern "C" fn addon_directly(x: u64, gross: u64, losses: u64) -> u64
 pub extern "C" fn addon_by_share(x: u64, gross: u64, losses: u64) -> u64
     ensures { λ r. ⌜ r ≡ answered x gross losses ⌝ }
 {
-    if refused(x, gross) {
-        return REFUSAL;
-    }
-    by_share(x, gross, less(gross, losses))
+    answer(Way::Share, x, gross, losses)
 }
 
 // By halves down to zero.
@@ -44,8 +57,5 @@ pub extern "C" fn addon_by_share(x: u64, gross: u64, losses: u64) -> u64
 pub extern "C" fn addon_by_halving(x: u64, gross: u64, losses: u64) -> u64
     ensures { λ r. ⌜ r ≡ answered x gross losses ⌝ }
 {
-    if refused(x, gross) {
-        return REFUSAL;
-    }
-    by_halving(x, gross, less(gross, losses))
+    answer(Way::Halving, x, gross, losses)
 }

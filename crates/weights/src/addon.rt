@@ -5,8 +5,9 @@ ghost use mathlib.Core.Path.{_≡_};
 ghost use Prim.Native.Nat.{_*_, _-_, _^_, _≤_, _<_};
 ghost use Rattle.rules.specs.Weighted.{ceil, weightedOf};
 
-// "X times (2G + 3N) / 5G, rounded up once; X if G is 0". The net N is the gross less the losses, or 0 if they are larger. Where N
-// equals G, which it also does at G = 0, it is the whole X; where N is 0 with G above it, two fifths; only between them a share.
+// "X times (2G + 3N) / 5G, rounded up once; X if G is 0". The net N is the gross less the losses, or 0 if they are larger. Where it
+// equals G, as it does without losses and at G = 0, that is the whole X; where it is 0 with G above it, two fifths of X; a share is
+// worked out only between the two. At N = 0 the gross is asked before two fifths are given, since at G = 0 they are not.
 pub fn weighted(x: u64, gross: u64, losses: u64) -> u64
     requires { ⌜ gross < 2 ^ 59 ⌝ }
     ensures { λ r. ⌜ r ≡ weightedOf x gross (gross - losses) ⌝ }
@@ -28,14 +29,14 @@ fn whole(x: u64) -> u64
     x
 }
 
-// Rounded up. No product here is larger than x and four more.
+// Rounded up: of the fives in x, and of what is left over them, since 2x need not fit 64 bits.
 fn two_fifths(x: u64) -> u64
     ensures { λ r. ⌜ r ≡ ceil (2 * x) 5 ⌝ }
 {
     2 * (x / 5) + (2 * (x % 5) + 4) / 5
 }
 
-// Between the two ends.
+// N is never above G, and so a share never above the whole.
 pub fn by_share(x: u64, gross: u64, net: u64) -> u64
     requires { ⌜ (0 < gross) × ((gross < 2 ^ 59) × (net ≤ gross)) ⌝ }
     ensures { λ r. ⌜ r ≡ weightedOf x gross net ⌝ }

@@ -55,6 +55,7 @@ fn at_once(x: u64, p: u64, q: u64) -> Parts
     }
 }
 
+// A share rounded up.
 pub fn rounded_up(s: Parts) -> u64
     requires { ⌜ s .quotient + min 1 (s .remainder) < 2 ^ 64 ⌝ }
     ensures { λ r. ⌜ r ≡ s .quotient + min 1 (s .remainder) ⌝ }
