@@ -1,3 +1,3 @@
 // The archive libaddon_bench.a, for `make bench` and no part of the product: the weighted add-on worked out in three ways.
 pub mod export;
-pub mod halving;
+mod halving;

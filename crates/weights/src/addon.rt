@@ -7,7 +7,7 @@ ghost use Rattle.rules.specs.Weighted.{ceil, weightedOf};
 
 // "X times (2G + 3N) / 5G, rounded up once; X if G is 0". The net N is the gross less the losses, or 0 if they are larger. Where it
 // equals G, as it does without losses and at G = 0, that is the whole X; where it is 0 with G above it, two fifths of X; a share is
-// worked out only between the two. At N = 0 the gross is asked before two fifths are given, since at G = 0 they are not.
+// worked out only between the two. At N = 0 the gross is asked before two fifths are given, since at G = 0 it is X.
 pub fn weighted(x: u64, gross: u64, losses: u64) -> u64
     requires { ⌜ gross < 2 ^ 59 ⌝ }
     ensures { λ r. ⌜ r ≡ weightedOf x gross (gross - losses) ⌝ }

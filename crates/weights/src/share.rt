@@ -32,7 +32,8 @@ fn share(x: u64, p: u64, q: u64) -> Parts
     doubled(share(x / 2, p, q), x, p, q)
 }
 
-// The share of x from that of its half. It has no branch: the part of an odd x is counted 0 or 1 times.
+// The share of x from that of its half: a step that the benchmark's halving down to zero takes too. It has no branch: the part of an
+// odd x is counted 0 or 1 times.
 pub fn doubled(half: Parts, x: u64, p: u64, q: u64) -> Parts
     requires { ⌜ ((p ≤ q) × ((0 < q) × (q < 2 ^ 62))) × ((half .quotient ≡ x / 2 * p / q) × (half .remainder ≡ x / 2 * p % q)) ⌝ }
     ensures { λ r. ⌜ (r .quotient ≡ x * p / q) × (r .remainder ≡ x * p % q) ⌝ }
