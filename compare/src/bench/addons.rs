@@ -33,6 +33,8 @@ const KINDS: [(&str, Losses); 3] = [
 
 type Way = fn(u64, u64, u64) -> Option<u64>;
 
+const WAYS: [Way; 3] = [addon_directly, addon_by_share, addon_by_halving];
+
 const NOTES: &str = "\
 The weighted add-on of a set, each in a call of its own: best times in ns, and
 ratios in the middle of all repetitions.
@@ -54,6 +56,11 @@ pub fn run() {
                 check(set);
             }
             measure(kind, size, &sets);
+        }
+    }
+    for (add_on, gross) in [(u64::MAX, 1), (1, 0), (1, 1 << 59)] {
+        for way in WAYS {
+            assert_eq!(way(add_on, gross, 0), None);
         }
     }
     let refused = [Set {
@@ -84,7 +91,7 @@ fn check(set: &Set) {
     let net = set.gross.saturating_sub(set.losses);
     let product = u128::from(set.add_on) * u128::from(2 * set.gross + 3 * net);
     let weighted = product.div_ceil(u128::from(5 * set.gross));
-    for way in [addon_directly, addon_by_share, addon_by_halving] {
+    for way in WAYS {
         let answer = way(set.add_on, set.gross, set.losses);
         assert_eq!(answer.map(u128::from), Some(weighted));
     }

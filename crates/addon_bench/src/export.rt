@@ -7,8 +7,10 @@ use words::numbers::less;
 ghost use mathlib.Core.Path.{_≡_};
 ghost use Rattle.addon_bench.specs.Answered.{answered, refuses};
 
+// The largest number: no weighted add-on is above its X, so that none of what is taken reaches it.
 const REFUSAL: u64 = 0xffffffffffffffff;
 
+// What `weights::addon::weighted` asks a gross value to be below.
 const GROSS_LIMIT: u64 = 1 << 59;
 
 fn refused(x: u64, gross: u64) -> bool

@@ -27,17 +27,17 @@ by-halving-requires c κs =
 returns-2 : tie.Need-returns-2
 returns-2 c =
     let s = c .before .before .before in
-    taken (s .before .before .args .x) (s .before .before .args .gross) _ (s .before .refused .ensures) (s .if1 .left) .answers _ _ _ refl (c .weighted .ensures)
+    taken _ _ _ (s .before .refused .ensures) (s .if1 .left) .answers _ _ _ refl (c .weighted .ensures)
 
 returns-3 : tie.Need-returns-3
 returns-3 c =
     let s = c .before .before .before .before in
-    taken (s .before .before .args .x) (s .before .before .args .gross) _ (s .before .refused .ensures) (s .if1 .left) .answers _ _ _ (c .before .less .ensures) (c .by-share .ensures)
+    taken _ _ _ (s .before .refused .ensures) (s .if1 .left) .answers _ _ _ (c .before .less .ensures) (c .by-share .ensures)
 
 returns-4 : tie.Need-returns-4
 returns-4 c =
     let s = c .before .before .before .before in
-    taken (s .before .before .args .x) (s .before .before .args .gross) _ (s .before .refused .ensures) (s .if1 .left) .answers _ _ _ (c .before .less2 .ensures) (c .by-halving .ensures)
+    taken _ _ _ (s .before .refused .ensures) (s .if1 .left) .answers _ _ _ (c .before .less2 .ensures) (c .by-halving .ensures)
 
 pub answer-spec : {M : Type 1} → statement M
 answer-spec =

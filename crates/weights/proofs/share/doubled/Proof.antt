@@ -30,7 +30,7 @@ add-t7 : tie.Need-add-t7
 add-t7 c = omega (arith, stepped (c .before))
 
 returns : tie.Need-returns
-returns c = (stepped (c .before) .quotient, stepped (c .before) .remainder)
+returns c = omega (arith, stepped (c .before))
 
 pub doubled-spec : {M : Type 1} → statement M
 doubled-spec =
