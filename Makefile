@@ -36,11 +36,13 @@ model: second
 	@cmp target/samples/stdout crates/leverage_samples/stdout
 
 # Both printing programs on the same input: books, bytes that are none, as many words as there is room for and one more.
+ROOM = 16384
+HEAD_AND_END = 4
 SAME = target/bin/leverage_print < target/input > target/printed && $(MODEL) print < target/input | cmp - target/printed
 printing: second printer
 	@for book in compare/books/*.txt; do $(MODEL) text $$book > target/input && $(SAME) || exit 1; done
 	@for size in 0 3 8 65536 65537 65540; do head -c $$size /dev/zero > target/input && $(SAME) || exit 1; done
-	@for sets in 16381 16382; do (echo tier1 1; yes financing | head -n $$sets) > target/full.txt && $(MODEL) text target/full.txt > target/input && $(SAME) || exit 1; done
+	@for more in 0 1; do (echo tier1 1; echo date 2096-03-01; yes financing | head -n $$(($(ROOM) - $(HEAD_AND_END) + more))) > target/full.txt && $(MODEL) text target/full.txt > target/input && $(SAME) || exit 1; done
 
 compare: library
 	@$(COMPARE) compare $(BOOKS) $(SEED)

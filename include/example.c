@@ -15,8 +15,8 @@ static uint64_t filed(const uint32_t *book, size_t len) {
 }
 
 int main(void) {
-    static const uint32_t book[] = {0x10000000, 0x00000032, 0x20000000, 0x000003E8, 0x00000014, 0x0000000A, 0xF0000006};
-    uint64_t whole = filed(book, 7);
-    uint64_t cut = filed(book, 6);
+    static const uint32_t book[] = {0x10000000, 0x00000032, 0x00008934, 0x20000000, 0x000003E8, 0x00000014, 0x0000000A, 0xF0000007};
+    uint64_t whole = filed(book, 8);
+    uint64_t cut = filed(book, 7);
     return leverage_number(whole) == LEVERAGE_ACCEPTED && leverage_number(cut) == LEVERAGE_END ? 0 : 1;
 }

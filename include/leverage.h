@@ -7,10 +7,10 @@
  *     #include "leverage.h"
  *
  *     int main(void) {
- *         uint32_t book[] = {0x10000000, 0x00000032, 0x20000000, 0x000003E8, 0x00000014, 0x0000000A, 0xF0000006};
+ *         uint32_t book[] = {0x10000000, 0x00000032, 0x00008934, 0x20000000, 0x000003E8, 0x00000014, 0x0000000A, 0xF0000007};
  *         int64_t rows[LEVERAGE_ROWS] = {0};
  *         struct leverage_entry reg[16] = {{0, 0, 0, 0}};
- *         uint64_t a = leverage_file(book, 7, rows, LEVERAGE_ROWS, reg, 16);
+ *         uint64_t a = leverage_file(book, 8, rows, LEVERAGE_ROWS, reg, 16);
  *         if (leverage_number(a) != LEVERAGE_ACCEPTED)
  *             printf("refused %u at %u\n", leverage_number(a), leverage_place(a));
  *         else
@@ -43,12 +43,13 @@ struct leverage_entry {
 #define LEVERAGE_WORDS 1048576
 #define LEVERAGE_ENTRIES 4096
 
-/* Why a book is refused. The first four come in this order; then the first faulty record decides, its causes in this order. */
+/* Why a book is refused. 1, 2, 3, 16 and 4 come first, in this order; then the first faulty record decides, its causes in the order of their
+ * numbers. */
 enum leverage_cause {
     LEVERAGE_ACCEPTED = 0,
     LEVERAGE_ROWS_SHORT = 1,      /* rows shorter than 22 */
     LEVERAGE_BOOK_LONG = 2,       /* book too long */
-    LEVERAGE_HEAD = 3,            /* under two words, no good head word or Tier 1 word */
+    LEVERAGE_HEAD = 3,            /* under three words, no good head word or Tier 1 word */
     LEVERAGE_REGISTER_SHORT = 4,  /* register shorter than the head's count b of protections */
     LEVERAGE_KIND = 5,            /* kind not allowed here */
     LEVERAGE_WORDS_SHORT = 6,     /* too few words, or an amount not of kind 0 */
@@ -59,7 +60,8 @@ enum leverage_cause {
     LEVERAGE_COVER_PLACE = 11,    /* cover's place not below b */
     LEVERAGE_COVER_UNFIT = 12,    /* entity, rank or days unfit */
     LEVERAGE_COVER_BEYOND = 13,   /* cover beyond either amount */
-    LEVERAGE_END = 14             /* no end word, wrong count, words after it */
+    LEVERAGE_END = 14,            /* no end word, wrong count, words after it */
+    LEVERAGE_DATE = 16            /* reporting date above 36,524 or no good amount */
 };
 
 /* What an accepted book comes to. */
@@ -77,10 +79,12 @@ enum leverage_outcome {
  *     bits 0 to 7     the number: 0 where the book is accepted, otherwise why it is refused
  *     bits 8 to 15    the verdict: 3 where the book is refused
  *     bits 16 to 47   the place: the index of the faulty record's first word (the length, where words run out); 0 for numbers 0 to 4
+ *                     and 16
  * The bits above are 0.
  *
  * Accepted: the first 22 rows are written, and entry i below b holds protection i and what is left of it.
- * Refused: the rows are as they were; from number 5 on the first b entries are all zero, below it the register is as it was.
+ * Refused before the records (1, 2, 3, 16 and 4): rows and register are as they were.
+ * Refused in the records (5 to 14): the rows are as they were, and the first b entries are all zero.
  * Rows from 22 on and entries from b on are never written. What rows and register held before does not matter.
  *
  * The lengths are in elements and of any size. Each pointer is aligned, not null (for length 0 too), and leads to that many initialised

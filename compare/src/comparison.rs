@@ -64,9 +64,7 @@ impl Sides {
         let ours = self.model.file(book, lengths, model::file);
         let theirs = self.library.file(book, lengths, library::file);
         self.counts.add(&ours);
-        if ours.number == 0 {
-            self.reached.add(book);
-        }
+        self.reached.add(book, &ours, lengths);
         let difference = if ours == theirs {
             self.model.difference(&self.library)
         } else {

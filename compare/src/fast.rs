@@ -1,11 +1,13 @@
 //! The same filing written for speed: one pass, unsigned sums, no allocation.
 //! It shares only the types of the boundary with the model.
 
+mod bands;
 mod derivatives;
 mod financing;
 mod sums;
 
-use crate::model::{Answer, Entry, LONGEST_BOOK, NO_VERDICT, ROWS};
+use crate::model::{Answer, Entry, FIRST_RECORD, LAST_DATE, LONGEST_BOOK, NO_VERDICT, ROWS};
+use bands::{bands, Bands};
 use derivatives::derivative_set;
 use financing::financing_set;
 use sums::Sums;
@@ -57,7 +59,7 @@ pub fn file(book: &[u32], rows: &mut [i64], register: &mut [Entry]) -> Answer {
 fn filing(book: &[u32], rows: &mut [i64], register: &mut [Entry]) -> Outcome<u32> {
     check(rows.len() >= ROWS, 1, 0)?;
     check(book.len() <= LONGEST_BOOK, 2, 0)?;
-    let &[head, tier1, ..] = book else {
+    let Some(&[head, tier1, date]) = book.first_chunk::<FIRST_RECORD>() else {
         return Err(Fault {
             number: 3,
             place: 0,
@@ -66,11 +68,14 @@ fn filing(book: &[u32], rows: &mut [i64], register: &mut [Entry]) -> Outcome<u32
     let protections = (head & 0x0FFF_FFFF) as usize;
     let good_head = head >> 28 == 1 && protections <= 4096 && tier1 >> 28 == 0 && tier1 != SIGN;
     check(good_head, 3, 0)?;
+    // Words of other kinds and negative ones are larger still.
+    check(date <= LAST_DATE, 16, 0)?;
     check(register.len() >= protections, 4, 0)?;
 
     let register = &mut register[..protections];
     let mut sums = Sums::default();
-    let read = load(book, register).and_then(|items| read_items(book, items, register, &mut sums));
+    let read = load(book, register)
+        .and_then(|items| read_items(book, items, bands(date), register, &mut sums));
     if let Err(fault) = read {
         register.fill(Entry::default());
         return Err(fault);
@@ -104,7 +109,7 @@ fn any_bit(words: &[u32]) -> u32 {
 
 /// Reads the protections into the register; returns where the items begin.
 fn load(book: &[u32], register: &mut [Entry]) -> Outcome<usize> {
-    let mut place = 2;
+    let mut place = FIRST_RECORD;
     for entry in register {
         let Some(&word) = book.get(place) else {
             return Err(Fault { number: 14, place });
@@ -129,13 +134,14 @@ fn load(book: &[u32], register: &mut [Entry]) -> Outcome<usize> {
 fn read_items(
     book: &[u32],
     mut place: usize,
+    bands: Bands,
     register: &mut [Entry],
     sums: &mut Sums,
 ) -> Outcome<()> {
     while let Some(&word) = book.get(place) {
         match word >> 28 {
             2 => place = assets(book, place, sums)?,
-            4 => place = derivative_set(book, place, word, register, sums)?,
+            4 => place = derivative_set(book, place, word, bands, register, sums)?,
             8 => place = financing_set(book, place, word, sums)?,
             10 => place = off_balance(book, place, sums)?,
             15 => {

@@ -81,16 +81,22 @@ impl Buffers {
 
 pub type Filing = fn(&[u32], &mut [i64], &mut [Entry]) -> Answer;
 
+/// The numbers that a filing answers, in the order in which they are judged.
+/// 15 is of no filing.
+pub const NUMBERS: [u32; 16] = [0, 1, 2, 3, 16, 4, 5, 6, 7, 8, 9, 10, 11, 12, 13, 14];
+
 /// How often each answer came: by number, and by verdict where accepted.
 #[derive(Default)]
 pub struct Counts {
-    pub numbers: [u64; 15],
-    pub verdicts: [u64; 3],
+    /// In the order of `NUMBERS`.
+    numbers: [u64; NUMBERS.len()],
+    verdicts: [u64; 3],
 }
 
 impl Counts {
     pub fn add(&mut self, answer: &Answer) {
-        self.numbers[answer.number as usize] += 1;
+        let number = NUMBERS.iter().position(|&number| number == answer.number);
+        self.numbers[number.expect("a number of the table")] += 1;
         if answer.number == 0 {
             self.verdicts[answer.verdict as usize] += 1;
         }
@@ -101,7 +107,7 @@ impl Counts {
         for (verdict, count) in self.verdicts.iter().enumerate() {
             println!("  verdict {verdict}: {count}");
         }
-        for (number, count) in self.numbers.iter().enumerate().skip(1) {
+        for (number, count) in NUMBERS.iter().zip(&self.numbers).skip(1) {
             println!("refused {number}: {count}");
         }
     }
@@ -109,8 +115,8 @@ impl Counts {
     /// That every number and every verdict came.
     pub fn complete(&self) -> Result<(), String> {
         let never = |counts: &[u64]| counts.iter().position(|&count| count == 0);
-        if let Some(number) = never(&self.numbers) {
-            return Err(format!("number {number} never came"));
+        if let Some(index) = never(&self.numbers) {
+            return Err(format!("number {} never came", NUMBERS[index]));
         }
         match never(&self.verdicts) {
             Some(verdict) => Err(format!("verdict {verdict} never came")),

@@ -1,6 +1,7 @@
 //! Seeded books: valid ones, damaged ones, and pairs for the two desks.
 
 mod damage;
+mod dates;
 mod marks;
 mod random;
 #[cfg(test)]
@@ -34,7 +35,8 @@ pub fn word(kind: u32, payload: u32) -> u32 {
 /// A record's amounts by its kind.
 pub fn amounts(kind: u32) -> usize {
     match kind {
-        1 | 7 | 10 => 1,
+        7 | 10 => 1,
+        1 => 2,
         2..=4 => 3,
         5 => 4,
         6 => 5,
@@ -87,7 +89,7 @@ fn at_the_limit(random: &mut Random) -> Vec<u32> {
 /// the largest add-ons there can be.
 fn full(random: &mut Random) -> Vec<u32> {
     let largest = AMOUNT_LIMIT - 1;
-    let mut words = vec![word(1, 0), 50];
+    let mut words = vec![word(1, 0), 50, dates::date(random)];
     if random.one_in(2) {
         words.extend([word(4, 1), 0, 0, 0]);
         while words.len() + 6 <= LONGEST_BOOK {
@@ -116,22 +118,18 @@ fn near_the_verdict(random: &mut Random) -> Vec<u32> {
     let tier1 = 3 * hundreds + random.below(3) - 1;
     let exposure = 100 * hundreds + random.below(3) - 1;
     let negative = u32::from(random.one_in(4)) * AMOUNT_LIMIT;
-    vec![
-        word(1, 0),
-        tier1 | negative,
-        word(2, 0),
-        exposure,
-        0,
-        0,
-        word(15, 6),
-    ]
+    let mut words = vec![word(1, 0), tier1 | negative, dates::date(random)];
+    words.extend([word(2, 0), exposure, 0, 0]);
+    words.push(word(15, words.len() as u32));
+    words
 }
 
 /// Words without a plan, behind a head that is mostly good.
 fn noise(random: &mut Random) -> Vec<u32> {
     let mut words = Vec::new();
     if !random.one_in(4) {
-        words.extend([word(1, random.below(3)), random.below(100)]);
+        let tier1 = random.below(100);
+        words.extend([word(1, random.below(3)), tier1, dates::date(random)]);
     }
     for _ in 0..random.below(12) {
         let kind = random.below(16);

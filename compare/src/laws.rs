@@ -1,7 +1,7 @@
 //! What holds of every filing, and of two filings on two desks.
 
 use crate::filing::{Buffers, Lengths};
-use crate::model::{Answer, Entry, ROWS};
+use crate::model::{Answer, Entry, FIRST_RECORD, ROWS};
 
 fn ensure(holds: bool, what: &str) -> Result<(), String> {
     if holds {
@@ -9,6 +9,12 @@ fn ensure(holds: bool, what: &str) -> Result<(), String> {
     } else {
         Err(what.to_string())
     }
+}
+
+/// Refused before any record was read, so that both buffers stay. This goes by
+/// the stage and not by the number: 16 comes between 3 and 4.
+fn before_the_records(answer: &Answer) -> bool {
+    matches!(answer.number, 1..=4 | 16)
 }
 
 /// What holds of one filing by itself.
@@ -19,9 +25,10 @@ pub fn filing(
     after: &Buffers,
     lengths: Lengths,
 ) -> Result<(), String> {
-    let protections = match answer.number {
-        1..=4 => 0,
-        _ => (book[0] & 0x0FFF_FFFF) as usize,
+    let protections = if before_the_records(answer) {
+        0
+    } else {
+        (book[0] & 0x0FFF_FFFF) as usize
     };
     let (lent, beyond) = after.register.split_at(protections);
     ensure(
@@ -64,7 +71,7 @@ fn conserved(book: &[u32], register: &[Entry]) -> Result<(), String> {
         accounted[(word & 0xFFF) as usize] += u64::from(book[place + 1]);
     }
     let available = |protection: &[u32]| u64::from(protection[1] - protection[2]);
-    let all = book[2..]
+    let all = book[FIRST_RECORD..]
         .chunks(4)
         .zip(&accounted)
         .all(|(protection, sum)| available(protection) == *sum);

@@ -4,7 +4,9 @@
 //! each in the order of the table of causes, and adds it to the template.
 
 mod audit;
+pub mod calendar;
 mod factors;
+mod head;
 mod records;
 mod refusal;
 mod template;
@@ -14,7 +16,7 @@ mod weighing;
 mod words;
 
 use audit::Audit;
-use records::Head;
+use head::Head;
 use refusal::{Cause, Refusal};
 
 /// Rows of the template.
@@ -22,6 +24,13 @@ pub const ROWS: usize = 22;
 
 /// The longest book, in words.
 pub const LONGEST_BOOK: usize = 1_048_576;
+
+/// Where the first record begins: behind the head's word of kind 1, its Tier 1
+/// and its reporting date.
+pub const FIRST_RECORD: usize = 3;
+
+/// The last reporting date, 31 December 2099, in days since 1 January 2000.
+pub const LAST_DATE: u32 = 36_524;
 
 /// The verdict that goes with every refusal.
 pub const NO_VERDICT: u32 = 3;
@@ -68,12 +77,12 @@ fn try_file(book: &[u32], rows: &mut [i64], register: &mut [Entry]) -> Result<u3
     if book.len() > LONGEST_BOOK {
         return Err(at_start(Cause::BookTooLong));
     }
-    let head = Head::read(book).ok_or(at_start(Cause::NoHead))?;
+    let head = Head::read(book).map_err(at_start)?;
     let register = register
         .get_mut(..head.protections)
         .ok_or(at_start(Cause::RegisterTooShort))?;
 
-    let audited = Audit::new(book, register).run(&head);
+    let audited = Audit::new(book, &head, register).run();
     match audited {
         Ok(template) => {
             rows.copy_from_slice(&template.rows());

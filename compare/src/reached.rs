@@ -1,17 +1,20 @@
-//! What accepted books make use of. Each thing on the list is counted, and one
-//! that never came is a fault of the generator.
+//! What accepted books make use of, and how heads are refused. Each thing on the
+//! list is counted, and one that never came is a fault of the generator.
 
+mod bands;
 mod covers;
+mod heads;
 
 use std::collections::BTreeMap;
 
+use crate::filing::Lengths;
 use crate::generate::{amounts, AMOUNT_LIMIT};
+use crate::model::{Answer, LAST_DATE};
+use bands::Bands;
 
 /// What is reached, with the numbers that tell it from others of its name.
 type Feature = (&'static str, [u32; 3]);
 
-/// The ends of the bands and of what days may be.
-const DAYS: [u32; 6] = [0, 365, 366, 1_825, 1_826, MOST_DAYS];
 const MOST_DAYS: u32 = 65_535;
 const LARGEST: u32 = AMOUNT_LIMIT - 1;
 
@@ -29,7 +32,7 @@ pub struct Reached(BTreeMap<Feature, u64>);
 
 impl Default for Reached {
     fn default() -> Self {
-        Reached(list().into_iter().map(|feature| (feature, 0)).collect())
+        Reached::listing(uses().into_iter().chain(heads::list()))
     }
 }
 
@@ -63,15 +66,34 @@ fn records(book: &[u32]) -> Vec<Record<'_>> {
 }
 
 impl Reached {
-    /// Counts what an accepted book uses.
-    pub fn add(&mut self, book: &[u32]) {
+    fn listing(features: impl Iterator<Item = Feature>) -> Self {
+        Reached(features.map(|feature| (feature, 0)).collect())
+    }
+
+    /// For accepted books alone.
+    #[cfg(test)]
+    pub fn in_accepted() -> Self {
+        Reached::listing(uses().into_iter())
+    }
+
+    /// Counts what a filed book uses, or how its head is refused.
+    pub fn add(&mut self, book: &[u32], answer: &Answer, lengths: Lengths) {
+        match answer.number {
+            0 => self.accepted(book),
+            _ => self.head(book, answer, lengths),
+        }
+    }
+
+    pub fn accepted(&mut self, book: &[u32]) {
         // Longer books repeat a few records and add nothing here.
         if book.len() > 20_000 {
             return;
         }
         let records = records(book);
+        let bands = Bands::at(records[0].amounts[1]);
+        self.counts(&bands);
         for record in &records {
-            self.record(record);
+            self.record(record, &bands);
         }
         for pair in records.windows(2) {
             self.neighbours(&pair[0], &pair[1]);
@@ -97,7 +119,7 @@ impl Reached {
     pub fn print(&self) {
         let least = self.0.values().min().copied().unwrap_or_default();
         let features = self.0.len();
-        println!("records, marks, classes, bands, covers, amounts: {features} kinds of use, each {least} times or more");
+        println!("records, marks, classes, dates, bands, covers, amounts, refused heads: {features} on the list, each {least} times or more");
     }
 
     fn came(&mut self, name: &'static str, numbers: [u32; 3]) {
@@ -106,7 +128,13 @@ impl Reached {
         }
     }
 
-    fn record(&mut self, record: &Record) {
+    fn pattern(&mut self, holds: bool, name: &'static str) {
+        if holds {
+            self.came(name, [0; 3]);
+        }
+    }
+
+    fn record(&mut self, record: &Record, bands: &Bands) {
         let kind = record.kind;
         self.came("kind", [kind, 0, 0]);
         for (_, bits) in MARKS.iter().filter(|(marked, _)| *marked == kind) {
@@ -120,7 +148,10 @@ impl Reached {
         match kind {
             2 => self.asset(record),
             4 => self.came("margin marks", [record.field(0, 5), 0, 0]),
-            5 => self.trade(record),
+            5 => {
+                self.came("principal payments", [record.field(3, 8), 0, 0]);
+                self.trade(record, bands);
+            }
             10 => self.came("conversion", [record.field(0, 4), record.field(4, 4), 0]),
             _ => {}
         }
@@ -130,25 +161,6 @@ impl Reached {
         let above = |amount: usize| u32::from(asset.amounts[amount] > 0);
         let numbers = [asset.field(0, 1), above(1), above(2)];
         self.came("fiduciary, provision above 0, deduction above 0", numbers);
-    }
-
-    fn trade(&mut self, trade: &Record) {
-        let class = trade.field(0, 3);
-        let resets = trade.field(11, 1);
-        let (remaining, reset) = (trade.amounts[2], trade.amounts[3]);
-        let deciding = if resets == 1 { reset } else { remaining };
-        let band = match deciding {
-            0..=365 => 0,
-            366..=1_825 => 1,
-            _ => 2,
-        };
-        self.came("class", [class, 0, 0]);
-        self.came("class, resets, band", [class, resets, band]);
-        self.came("days that decide the band", [deciding, resets, 0]);
-        self.came("principal payments", [trade.field(3, 8), 0, 0]);
-        if class == 0 && resets == 1 && remaining > 365 && reset <= 365 {
-            self.came("floor of 5", [0; 3]);
-        }
     }
 
     fn neighbours(&mut self, before: &Record, record: &Record) {
@@ -164,7 +176,7 @@ impl Reached {
     }
 }
 
-fn list() -> Vec<Feature> {
+fn uses() -> Vec<Feature> {
     let mut list = Vec::new();
     for kind in (1..=10).chain([15]) {
         list.push(("kind", [kind, 0, 0]));
@@ -179,14 +191,7 @@ fn list() -> Vec<Feature> {
     }
     list.extend((0..32).map(|marks| ("margin marks", [marks, 0, 0])));
     list.extend(extremes());
-    list.extend((0..7).map(|class| ("class", [class, 0, 0])));
-    for resets in 0..2 {
-        for class in 0..5 {
-            list.extend((0..3).map(|band| ("class, resets, band", [class, resets, band])));
-        }
-        list.extend(DAYS.map(|days| ("days that decide the band", [days, resets, 0])));
-    }
-    list.push(("floor of 5", [0; 3]));
+    list.extend(bands::list());
     list.extend([1, 2, 255].map(|payments| ("principal payments", [payments, 0, 0])));
     for class in 0..11 {
         list.extend((0..12).map(|other| ("conversion", [class, other, 0])));
@@ -209,10 +214,13 @@ fn extremes() -> Vec<Feature> {
     let mut list = Vec::new();
     for kind in 1..=10 {
         for place in 1..=amounts(kind) as u32 {
-            let days = matches!((kind, place), (3, 3) | (5, 3) | (5, 4) | (6, 4) | (9, 7));
             let signed = matches!((kind, place), (1 | 5 | 6, 1));
             let least = u32::from(kind == 7);
-            let most = if days { MOST_DAYS } else { LARGEST };
+            let most = match (kind, place) {
+                (1, 2) => LAST_DATE,
+                (3, 3) | (5, 3) | (5, 4) | (6, 4) | (9, 7) => MOST_DAYS,
+                _ => LARGEST,
+            };
             let mut edges = vec![least, most];
             if signed {
                 edges.extend([AMOUNT_LIMIT | 1, AMOUNT_LIMIT | LARGEST]);

@@ -5,9 +5,13 @@ use std::fs;
 use std::path::Path;
 
 use crate::filing::Counts;
-use crate::generate::{self, word, Random};
-use crate::model::{self, Answer, Entry, LONGEST_BOOK, ROWS};
+use crate::generate::{self, word, Random, AMOUNT_LIMIT};
+use crate::model::{self, Answer, Entry, FIRST_RECORD, LAST_DATE, LONGEST_BOOK, ROWS};
 use crate::text;
+
+/// The date of the paper's samples, 1 March 2096: one year and five years from
+/// it have 365 and 1,825 days.
+pub const SAMPLE_DATE: u32 = 35_124;
 
 /// The register of a filing that is lent none.
 const ENTRIES: usize = 1_024;
@@ -30,7 +34,7 @@ const PAPER: [(&str, [i64; 5]); 3] = [
     ),
     (
         include_str!("../books/cover_senior.txt"),
-        [12, 16, 3, DIRT, DIRT],
+        [12, 17, 3, DIRT, DIRT],
     ),
 ];
 
@@ -72,6 +76,7 @@ impl Sample {
 pub fn write(books: u64, seed: u64, folder: &Path) -> Result<(), String> {
     let mut samples = from_the_paper()?;
     samples.extend(at_the_edges());
+    samples.extend(by_head());
     samples.extend(generated(books, seed));
 
     let mut rows = [DIRT; LENT];
@@ -107,8 +112,8 @@ fn save(file: &Path, bytes: &[u8]) -> Result<(), String> {
     fs::write(file, bytes).map_err(failed)
 }
 
-/// The paper's samples, where the model answers what the paper says, and the
-/// book that has every kind of record.
+/// The paper's samples, where the model answers what the paper says, the book
+/// that has every kind of record, and the one over a leap year.
 fn from_the_paper() -> Result<Vec<Sample>, String> {
     let mut samples = Vec::new();
     for (source, expected) in PAPER {
@@ -124,23 +129,25 @@ fn from_the_paper() -> Result<Vec<Sample>, String> {
         }
         samples.push(sample);
     }
-    let every_kind = text::words(include_str!("../books/sample.txt"))?;
-    samples.push(Sample::whole(every_kind));
+    for source in [
+        include_str!("../books/sample.txt"),
+        include_str!("../books/leap_year.txt"),
+    ] {
+        samples.push(Sample::whole(text::words(source)?));
+    }
     Ok(samples)
 }
 
-/// The lengths and counts at which the first four numbers begin.
+/// The lengths and counts at which the numbers 1 to 4 begin.
 fn at_the_edges() -> Vec<Sample> {
-    let head = |protections| vec![word(1, protections), 7];
-    let counted = |protections| {
-        let mut book = head(protections);
-        book.push(word(15, 2));
-        Sample::whole(book)
-    };
-    let long = |rows, words, kind| Sample::filled(rows, words, vec![word(kind, 0), 7]);
+    let cut = |words| Sample::whole([word(1, 0), 7, SAMPLE_DATE][..words].to_vec());
+    let counted = |protections| Sample::whole(head_and_end(protections, 7, SAMPLE_DATE));
+    let long = |rows, words, kind| Sample::filled(rows, words, vec![word(kind, 0), 7, SAMPLE_DATE]);
     vec![
-        Sample::whole(vec![]),
-        Sample::whole(vec![word(1, 0)]),
+        cut(0),
+        cut(1),
+        cut(2),
+        cut(FIRST_RECORD),
         Sample::whole(all_entries()),
         counted(1_024),
         counted(1_025),
@@ -155,10 +162,35 @@ fn at_the_edges() -> Vec<Sample> {
     ]
 }
 
+fn head_and_end(protections: u32, tier1: u32, date: u32) -> Vec<u32> {
+    vec![
+        word(1, protections),
+        tier1,
+        date,
+        word(15, FIRST_RECORD as u32),
+    ]
+}
+
+/// Dates that are good or just not, each with a Tier 1 that is faulty or not
+/// and with more protections than there are entries or none.
+fn by_head() -> Vec<Sample> {
+    let sign = AMOUNT_LIMIT;
+    let another_kind = word(2, SAMPLE_DATE);
+    let mut samples = Vec::new();
+    for date in [0, LAST_DATE, LAST_DATE + 1, sign, sign | 1, another_kind] {
+        for tier1 in [7, sign] {
+            for protections in [0, ENTRIES as u32 + 1] {
+                samples.push(Sample::whole(head_and_end(protections, tier1, date)));
+            }
+        }
+    }
+    samples
+}
+
 /// As many protections as there are entries; the last one covers a credit.
 fn all_entries() -> Vec<u32> {
     let count = ENTRIES as u32;
-    let mut book = vec![word(1, count), 7];
+    let mut book = vec![word(1, count), 7, SAMPLE_DATE];
     for rank in (0..count).map(|place| place % 16) {
         book.extend([word(3, 5 | rank << 16), 9, 2, 30]);
     }

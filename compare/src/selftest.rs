@@ -32,9 +32,7 @@ pub fn run(books: u64, seed: u64) -> Result<(), String> {
         let answer = model_side.file(&book, lengths, model::file);
         laws::filing(&book, &answer, &before, &model_side, lengths).map_err(fail)?;
         counts.add(&answer);
-        if answer.number == 0 {
-            reached.add(&book);
-        }
+        reached.add(&book, &answer, lengths);
 
         let fast_answer = fast_side.file(&book, lengths, fast::file);
         if fast_answer != answer {

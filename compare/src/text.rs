@@ -1,19 +1,46 @@
 //! A readable form of a book: one record per line, a keyword, then marks by
 //! their name and fields as name=value. `#` begins a comment. Amounts left out
-//! are 0. The head's count of protections and the end word are written here.
+//! are 0. The first two lines are the head's amounts: `tier1` and its amount,
+//! `date` and the reporting date as 2096-03-01. The head's count of protections
+//! and the end word are written here.
 //!
 //! The order of the lines is that of the book, right or wrong, so that faulty
 //! books can be written as well.
 
+mod date;
 mod forms;
 #[cfg(test)]
 mod tests;
 
+use crate::model::FIRST_RECORD;
+use date::date;
 use forms::{Form, FORMS};
+
+/// A line of the head: its keyword and one value.
+struct HeadLine {
+    keyword: &'static str,
+    standing: &'static str,
+    read: fn(&str) -> Result<u32, String>,
+}
+
+/// In the order of the words behind the head's own.
+const HEAD_LINES: [HeadLine; FIRST_RECORD - 1] = [
+    HeadLine {
+        keyword: "tier1",
+        standing: "first",
+        read: amount,
+    },
+    HeadLine {
+        keyword: "date",
+        standing: "second",
+        read: date,
+    },
+];
 
 /// The words of a book written as text.
 pub fn words(source: &str) -> Result<Vec<u32>, String> {
-    let mut words = Vec::new();
+    // The head's own word needs the count of protections and comes last.
+    let mut words = vec![0];
     let mut protections = 0;
     for (number, line) in (1..).zip(source.lines()) {
         let line = line.split('#').next().unwrap_or_default();
@@ -22,23 +49,39 @@ pub fn words(source: &str) -> Result<Vec<u32>, String> {
             continue;
         };
         let at_line = |error| format!("line {number}: {error}");
-        if words.is_empty() != (keyword == "tier1") {
-            return Err(at_line("the first record, and only that, is tier1".into()));
-        }
-        if let ("tier1", &[value]) = (keyword, parts) {
-            words.extend([0, amount(value).map_err(at_line)?]);
-            continue;
+        match head_word(words.len(), keyword, parts).map_err(at_line)? {
+            Some(word) => words.push(word),
+            None => words.extend(record(keyword, parts).map_err(at_line)?),
         }
         protections += u32::from(keyword == "protection");
-        words.extend(record(keyword, parts).map_err(at_line)?);
     }
-    match words.first_mut() {
-        Some(head) => *head = 1 << 28 | protections,
-        None => return Err("no record".to_string()),
+    if let Some(missing) = HEAD_LINES.get(words.len() - 1) {
+        return Err(format!("no {}", missing.keyword));
     }
+    words[0] = 1 << 28 | protections;
     let count = u32::try_from(words.len()).map_err(|error| error.to_string())?;
     words.push(15 << 28 | count & 0x0FFF_FFFF);
     Ok(words)
+}
+
+/// The word of a line of the head, none where a record is due at this place.
+fn head_word(place: usize, keyword: &str, values: &[&str]) -> Result<Option<u32>, String> {
+    let due = (place < FIRST_RECORD).then(|| place - 1);
+    let found = HEAD_LINES.iter().position(|line| line.keyword == keyword);
+    let Some(index) = due.or(found) else {
+        return Ok(None);
+    };
+    let line = &HEAD_LINES[index];
+    if due != found {
+        let (standing, keyword) = (line.standing, line.keyword);
+        return Err(format!(
+            "the {standing} record, and only that, is {keyword}"
+        ));
+    }
+    match values {
+        [value] => (line.read)(value).map(Some),
+        _ => Err(format!("{keyword} has one value")),
+    }
 }
 
 fn record(keyword: &str, parts: &[&str]) -> Result<Vec<u32>, String> {

@@ -8,6 +8,7 @@ use super::{Timing, REPETITIONS};
 use crate::filing::Filing;
 use crate::generate::{correct_count, word, Random};
 use crate::model::{Entry, ROWS};
+use crate::samples::SAMPLE_DATE;
 use crate::{fast, library, model};
 
 const SIZES: [usize; 3] = [1 << 10, 1 << 15, 1 << 20];
@@ -105,7 +106,7 @@ fn time(books: &[Vec<u32>], mut once: impl FnMut(&[u32])) -> f64 {
 /// A book of as many items as fit into `size` words, behind protections that
 /// are all large enough for the covers that will name them.
 fn book(size: usize, protections: usize, item: Item, random: &mut Random) -> Vec<u32> {
-    let mut words = vec![word(1, protections as u32), 1_000_000];
+    let mut words = vec![word(1, protections as u32), 1_000_000, SAMPLE_DATE];
     for _ in 0..protections {
         words.extend([word(3, 5 | 9 << 16), (1 << 27) - 1, 0, 65_535]);
     }
@@ -140,7 +141,7 @@ fn gain(random: &mut Random) -> u32 {
 }
 
 fn value(random: &mut Random) -> u32 {
-    gain(random) | u32::from(random.one_in(2)) * NEGATIVE
+    gain(random) | (u32::from(random.one_in(2)) * NEGATIVE)
 }
 
 /// Gains and losses at random: in half of these sets N is 0, in hardly any G.

@@ -1,5 +1,6 @@
 //! Derivative sets with their written credits and covers.
 
+use super::bands::Bands;
 use super::sums::Sums;
 use super::{amounts, check, of_kind, signed, Fault, Outcome, SIGN};
 use crate::model::Entry;
@@ -38,6 +39,7 @@ pub fn derivative_set(
     book: &[u32],
     head: usize,
     marks: u32,
+    bands: Bands,
     register: &mut [Entry],
     sums: &mut Sums,
 ) -> Outcome<usize> {
@@ -50,7 +52,7 @@ pub fn derivative_set(
     while let Some(&word) = book.get(place) {
         match word >> 28 {
             5 => {
-                trade(book, place, word, &mut tally)?;
+                trade(book, place, word, bands, &mut tally)?;
                 place += 5;
             }
             6 => place = written_credit(book, place, word, register, &mut tally, sums)?,
@@ -95,7 +97,7 @@ pub fn derivative_set(
 }
 
 #[inline(always)]
-fn trade(book: &[u32], place: usize, word: u32, tally: &mut Tally) -> Outcome<()> {
+fn trade(book: &[u32], place: usize, word: u32, bands: Bands, tally: &mut Tally) -> Outcome<()> {
     let &[value, notional, days, reset] = amounts(book, place)?;
     let class = word & 7;
     let payments = word >> 3 & 0xFF;
@@ -112,10 +114,10 @@ fn trade(book: &[u32], place: usize, word: u32, tally: &mut Tally) -> Outcome<()
     check((reset == days) | (resets & (reset < days)), 9, place)?;
 
     // Without a reset both counts of days are equal.
-    let band = usize::from(reset > 365) + usize::from(reset > 1825);
+    let band = usize::from(reset > bands.one_year) + usize::from(reset > bands.five_years);
     let by_band = ADD_ON[(class + 2 * qualifying) as usize & 7][band];
     // The floor changes nothing where the days themselves choose the band.
-    let floor = 5 * u64::from((class == 0) & (days > 365));
+    let floor = 5 * u64::from((class == 0) & (days > bands.one_year));
     let factor = by_band.max(floor);
     tally.value(signed(value));
     tally.add_on += factor * u64::from(payments) * u64::from(notional);

@@ -1,6 +1,7 @@
 //! Valid books with something wrong: blind damage to words, and damage aimed
 //! at one cause of refusal so that each occurs often enough.
 
+mod head;
 mod record;
 
 use super::{amounts, correct_count, word, Book, Random, AMOUNT_LIMIT};
@@ -14,14 +15,15 @@ pub fn damaged(mut book: Book, random: &mut Random) -> Vec<u32> {
     // Two faults in one book show which of them is named.
     let faults = random.pick(&[1, 1, 1, 2, 3]);
     for _ in 0..faults {
-        match random.below(18) {
+        match random.below(19) {
             0..=3 => blind(&mut book.words, random),
-            4 => head(&mut book.words, random),
-            5 => protection_count(&mut book.words, random),
-            6 => end(&mut book.words, random),
-            7 => whole_record(&mut book, random),
-            8 | 9 => one_record(&mut book, &[9], random),
-            10..=12 => one_record(&mut book, &[7], random),
+            4 => head::damage(&mut book.words, random),
+            5 => head::protection_count(&mut book.words, random),
+            6 => head::date(&mut book.words, random),
+            7 => end(&mut book.words, random),
+            8 => whole_record(&mut book, random),
+            9 | 10 => one_record(&mut book, &[9], random),
+            11..=13 => one_record(&mut book, &[7], random),
             _ => one_record(&mut book, &MEMBERS_AND_ITEMS, random),
         }
     }
@@ -59,22 +61,6 @@ fn blind(words: &mut Vec<u32>, random: &mut Random) {
         5 => words.swap(place.saturating_sub(1), place),
         6 => words.truncate(place),
         _ => words[place] = random.word(),
-    }
-}
-
-fn head(words: &mut Vec<u32>, random: &mut Random) {
-    match random.below(5) {
-        0 => words.truncate(random.index(2)),
-        1 if words.len() > 1 => words[1] = random.pick(&[SIGN, word(2, 0), word(15, 1)]),
-        2 if !words.is_empty() => words[0] = word(random.below(16), 0),
-        3 if !words.is_empty() => words[0] = word(1, random.pick(&[4_096, 4_097, 1 << 27])),
-        _ => words.insert(0, random.word()),
-    }
-}
-
-fn protection_count(words: &mut [u32], random: &mut Random) {
-    if let Some(first) = words.first_mut() {
-        *first = first.wrapping_add(random.pick(&[1, u32::MAX]));
     }
 }
 

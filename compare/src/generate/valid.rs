@@ -1,12 +1,15 @@
 //! Books that are to be accepted.
 
+mod derivatives;
+
+use super::dates::date;
 use super::{correct_count, word, Book, Random, Span, AMOUNT_LIMIT};
 use crate::model::Entry;
 
 const LARGEST: u32 = AMOUNT_LIMIT - 1;
 
-/// The edges of the bands and of what days may be.
-const DAYS: [u32; 10] = [0, 1, 30, 365, 366, 400, 1_825, 1_826, 65_534, 65_535];
+/// The edges of the bands at all dates, and of what days may be.
+const DAYS: [u32; 11] = [0, 1, 30, 365, 366, 400, 1_825, 1_826, 1_827, 65_534, 65_535];
 
 pub fn book(random: &mut Random) -> Book {
     let mut writer = Writer {
@@ -15,6 +18,7 @@ pub fn book(random: &mut Random) -> Book {
             records: Vec::new(),
         },
         register: Vec::new(),
+        date: date(random),
         ordinary: !random.one_in(5),
         random,
     };
@@ -29,6 +33,7 @@ struct Writer<'a> {
     book: Book,
     /// What is left of each protection for the covers still to be written.
     register: Vec<Entry>,
+    date: u32,
     /// Ordinary books have small amounts, so that netting and rounding show.
     ordinary: bool,
     random: &'a mut Random,
@@ -96,7 +101,7 @@ impl Writer<'_> {
             1 | 2 => self.signed_size(),
             _ => self.size(),
         };
-        self.record(1, protections, &[tier1]);
+        self.record(1, protections, &[tier1, self.date]);
         for _ in 0..protections {
             self.protection();
         }
@@ -141,101 +146,6 @@ impl Writer<'_> {
         let deducted = self.up_to(carrying - provision);
         let fiduciary = self.bit(0);
         self.record(2, fiduciary, &[carrying, provision, deducted]);
-    }
-
-    fn derivative_set(&mut self) {
-        let marks = match self.random.below(4) {
-            0 => 0b1_1111 | self.bit(5),
-            1 => 1,
-            _ => self.random.below(64),
-        };
-        let cash = [self.size(), self.size(), self.size()];
-        self.record(4, marks, &cash);
-        for _ in 0..self.random.pick(&[0, 1, 1, 2, 2, 3, 5]) {
-            if self.random.one_in(2) {
-                self.trade();
-            } else {
-                self.written_credit();
-            }
-        }
-    }
-
-    fn trade(&mut self) {
-        let class = self.random.below(7);
-        let credit = class == 5;
-        let payments = if credit {
-            1
-        } else {
-            let several = self.random.between(1, 255);
-            self.random.pick(&[1, 1, 2, 255, several])
-        };
-        let qualifying = if credit { self.bit(12) } else { 0 };
-        let resets = self.bit(11);
-        let days = self.days();
-        let reset = match (resets, self.random.below(3)) {
-            (0, _) | (_, 0) => days,
-            (_, 1) => self.random.pick(&DAYS).min(days),
-            _ => self.random.between(0, days),
-        };
-        let amounts = [self.signed_size(), self.size(), days, reset];
-        let payload = class | payments << 3 | resets | qualifying;
-        self.record(5, payload, &amounts);
-    }
-
-    fn written_credit(&mut self) {
-        let protection = match self.register.len() {
-            0 => None,
-            _ if self.random.one_in(4) => None,
-            protections => Some(self.random.index(protections)),
-        };
-        // A credit that is to be covered follows the protection it will name.
-        let (entity, rank, days) = match protection.map(|index| self.register[index]) {
-            Some(entry) => (
-                entry.entity,
-                self.up_to(entry.rank),
-                self.random.pick(&[0, 365, 365, 65_535]).min(entry.days),
-            ),
-            None => (self.entity(), self.random.below(16), self.days()),
-        };
-        let notional = match protection {
-            Some(index) if self.random.one_in(3) => self.register[index].left,
-            _ => self.size(),
-        };
-        let loss = match self.random.below(3) {
-            0 => self.up_to(notional),
-            _ => 0,
-        };
-        let premiums = match self.random.below(3) {
-            0 => notional / 20,
-            1 => notional / 10 + 1,
-            _ => self.size(),
-        };
-        let marks = self.random.below(8) << 20;
-        let value = self.signed_size();
-        let payload = entity | rank << 16 | marks;
-        self.record(6, payload, &[value, notional, loss, days, premiums]);
-        if let Some(first) = protection {
-            self.covers(first, [entity, rank, days], notional - loss);
-        }
-    }
-
-    /// Several covers by one or more fitting protections.
-    fn covers(&mut self, first: usize, [entity, rank, days]: [u32; 3], mut open: u32) {
-        let mut index = first;
-        for _ in 0..self.random.pick(&[1, 1, 2, 3]) {
-            let entry = self.register[index];
-            let fit = entry.entity == entity && entry.rank >= rank && entry.days >= days;
-            let most = entry.left.min(open);
-            if fit && most > 0 {
-                let amount = self.up_to(most).max(1);
-                self.record(7, index as u32, &[amount]);
-                self.register[index].left -= amount;
-                open -= amount;
-            }
-            if self.random.one_in(2) {
-                index = self.random.index(self.register.len());
-            }
-        }
     }
 
     fn financing_set(&mut self) {

@@ -1,14 +1,16 @@
 //! The pass over a book: record after record, with the register at hand.
 
+use super::factors::Bands;
+use super::head::Head;
 use super::records::{
-    Asset, Cover, DerivativeHead, FinancingHead, FinancingTrade, Head, OffBalance, Protection,
-    Record, Trade, WrittenCredit,
+    Asset, Cover, DerivativeHead, FinancingHead, FinancingTrade, OffBalance, Protection, Record,
+    Trade, WrittenCredit,
 };
 use super::refusal::{Cause, Refusal};
 use super::template::Template;
 use super::weighing::{DerivativeTally, FinancingTally};
 use super::words::{kind, kinds, Payload};
-use super::Entry;
+use super::{Entry, FIRST_RECORD};
 
 pub struct Audit<'a> {
     book: &'a [u32],
@@ -18,22 +20,23 @@ pub struct Audit<'a> {
     in_hand: usize,
     /// One entry per protection, as far as they have been read.
     register: &'a mut [Entry],
+    bands: Bands,
     template: Template,
 }
 
 impl<'a> Audit<'a> {
-    pub fn new(book: &'a [u32], register: &'a mut [Entry]) -> Self {
+    pub fn new(book: &'a [u32], head: &Head, register: &'a mut [Entry]) -> Self {
         Audit {
             book,
-            next: Head::WORDS,
+            next: FIRST_RECORD,
             in_hand: 0,
             register,
-            template: Template::default(),
+            bands: head.bands,
+            template: Template::new(head.tier1),
         }
     }
 
-    pub fn run(mut self, head: &Head) -> Result<Template, Refusal> {
-        self.template = Template::new(head.tier1);
+    pub fn run(mut self) -> Result<Template, Refusal> {
         self.protections()?;
         self.items()?;
         self.template.close();
@@ -121,7 +124,7 @@ impl<'a> Audit<'a> {
             match self.next_kind() {
                 Some(kinds::TRADE) => {
                     let trade: Trade = self.record()?;
-                    tally.trade(&trade);
+                    tally.trade(&trade, &self.bands);
                 }
                 Some(kinds::WRITTEN_CREDIT) => {
                     let credit: WrittenCredit = self.record()?;

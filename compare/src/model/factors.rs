@@ -1,5 +1,6 @@
 //! Add-on and conversion factors, per thousand of the notional.
 
+use super::calendar::days_of_years;
 use super::records::{Trade, WrittenCredit};
 
 #[derive(Clone, Copy, PartialEq, Eq, Debug)]
@@ -28,22 +29,36 @@ impl Class {
     }
 }
 
-/// The last day of the first and of the second maturity band.
-const ONE_YEAR: i64 = 365;
-const FIVE_YEARS: i64 = 1_825;
+/// The last day of the first and of the second maturity band, in days from the
+/// reporting date.
+#[derive(Clone, Copy)]
+pub struct Bands {
+    one_year: i64,
+    five_years: i64,
+}
+
+impl Bands {
+    /// Each ends on the same calendar day that many years after the date.
+    pub fn at(date: i64) -> Self {
+        Bands {
+            one_year: days_of_years(date, 1),
+            five_years: days_of_years(date, 5),
+        }
+    }
+
+    fn choose(&self, days: i64, [short, medium, long]: [i64; 3]) -> i64 {
+        if days <= self.one_year {
+            short
+        } else if days <= self.five_years {
+            medium
+        } else {
+            long
+        }
+    }
+}
 
 /// A resetting rates trade of more than a year has at least this factor.
 const RESETTING_RATES_FLOOR: i64 = 5;
-
-fn by_band(days: i64, [short, medium, long]: [i64; 3]) -> i64 {
-    if days <= ONE_YEAR {
-        short
-    } else if days <= FIVE_YEARS {
-        medium
-    } else {
-        long
-    }
-}
 
 fn credit_factor(qualifying: bool) -> i64 {
     if qualifying {
@@ -54,25 +69,26 @@ fn credit_factor(qualifying: bool) -> i64 {
 }
 
 /// The gross add-on of a trade, in thousandths.
-pub fn trade_add_on(trade: &Trade) -> i64 {
+pub fn trade_add_on(trade: &Trade, bands: &Bands) -> i64 {
     let band_days = if trade.resets {
         trade.reset_days
     } else {
         trade.days
     };
+    let by_band = |figures| bands.choose(band_days, figures);
     let factor = match trade.class {
         Class::Rates => {
-            let factor = by_band(band_days, [0, 5, 15]);
-            if trade.resets && trade.days > ONE_YEAR {
+            let factor = by_band([0, 5, 15]);
+            if trade.resets && trade.days > bands.one_year {
                 factor.max(RESETTING_RATES_FLOOR)
             } else {
                 factor
             }
         }
-        Class::Currency => by_band(band_days, [10, 50, 75]),
-        Class::Equity => by_band(band_days, [60, 80, 100]),
-        Class::PreciousMetals => by_band(band_days, [70, 70, 80]),
-        Class::Commodities => by_band(band_days, [100, 120, 150]),
+        Class::Currency => by_band([10, 50, 75]),
+        Class::Equity => by_band([60, 80, 100]),
+        Class::PreciousMetals => by_band([70, 70, 80]),
+        Class::Commodities => by_band([100, 120, 150]),
         Class::BoughtCredit => credit_factor(trade.qualifying),
         Class::FloatingAgainstFloating => 0,
     };

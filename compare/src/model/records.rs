@@ -4,38 +4,11 @@
 
 use super::factors::{Class, Conversion};
 use super::refusal::Cause;
-use super::words::{days, kind, kinds, signed, unsigned, Payload};
-
-const MOST_PROTECTIONS: u32 = 4_096;
+use super::words::{days, signed, unsigned, Payload};
 
 /// A record whose amounts, already known to be of kind 0, follow its payload.
 pub trait Record<const AMOUNTS: usize>: Sized {
     fn read(payload: Payload, amounts: [u32; AMOUNTS]) -> Result<Self, Cause>;
-}
-
-/// The head stands apart: its faults are all one cause, judged before the rest.
-pub struct Head {
-    pub protections: usize,
-    pub tier1: i64,
-}
-
-impl Head {
-    /// The words of the head with its Tier 1.
-    pub const WORDS: usize = 2;
-
-    pub fn read(book: &[u32]) -> Option<Self> {
-        let &[head, tier1, ..] = book else {
-            return None;
-        };
-        let count = Payload::of(head).value();
-        if kind(head) != kinds::HEAD || count > MOST_PROTECTIONS || kind(tier1) != kinds::AMOUNT {
-            return None;
-        }
-        Some(Head {
-            protections: count as usize,
-            tier1: signed(tier1).ok()?,
-        })
-    }
 }
 
 pub struct Protection {

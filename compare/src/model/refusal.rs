@@ -1,11 +1,13 @@
 //! Why and where a book is turned away.
 
-/// The causes in the order of the paper's table.
+/// The causes in the order in which they are judged: that of the paper's table,
+/// with the date of request A.2 where it puts it.
 #[derive(Clone, Copy, PartialEq, Eq, Debug)]
 pub enum Cause {
     RowsTooShort = 1,
     BookTooLong = 2,
     NoHead = 3,
+    DateFaulty = 16,
     RegisterTooShort = 4,
     KindNotAllowed = 5,
     AmountMissing = 6,

@@ -1,9 +1,12 @@
 //! What the tests of the model share: books written record by record.
 
+mod bands;
+mod calendar;
 mod refusals;
 mod samples;
 
-use super::{file, Answer, Entry, LONGEST_BOOK, NO_VERDICT, ROWS};
+use super::{file, Answer, Entry, FIRST_RECORD, LAST_DATE, LONGEST_BOOK, NO_VERDICT, ROWS};
+use crate::samples::SAMPLE_DATE;
 
 const ALL_MARGIN_MARKS: u32 = 0b1_1111;
 const NETTING: u32 = 1;
@@ -29,7 +32,11 @@ struct Book(Vec<u32>);
 
 impl Book {
     fn new(protections: u32, tier1: i32) -> Self {
-        Book(vec![word(1, protections), amount(tier1)])
+        Book::dated(protections, tier1, SAMPLE_DATE)
+    }
+
+    fn dated(protections: u32, tier1: i32, date: u32) -> Self {
+        Book(vec![word(1, protections), amount(tier1), date])
     }
 
     fn add(mut self, kind: u32, payload: u32, amounts: &[i32]) -> Self {
@@ -91,11 +98,20 @@ fn refused(book: &[u32], number: u32, place: usize) {
     };
     assert_eq!(answer, expected);
     assert_eq!(rows, [7; ROWS]);
+    // By the stage: 16 is found before the register is looked at.
+    let in_records = !matches!(number, 1..=4 | 16);
     for (index, &entry) in register.iter().enumerate() {
-        let cleared = number >= 5 && index < protections;
+        let cleared = in_records && index < protections;
         assert_eq!(entry, if cleared { Entry::default() } else { DIRT });
     }
 }
+
+/// Where the record behind an asset or the head of a derivative set begins.
+const SECOND_RECORD: usize = FIRST_RECORD + 4;
+
+/// Where a covered credit and its first cover begin.
+const CREDIT: usize = FIRST_RECORD + 8;
+const COVER: usize = CREDIT + 6;
 
 /// A covered credit; the protection has rank 2, 400 days and 30 available.
 fn covered(rank: u32, days: i32, covers: &[i32]) -> Book {

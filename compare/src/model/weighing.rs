@@ -1,6 +1,6 @@
 //! What a set of derivatives or of financing trades comes to.
 
-use super::factors::{trade_add_on, written_add_on};
+use super::factors::{trade_add_on, written_add_on, Bands};
 use super::records::{DerivativeHead, FinancingHead, FinancingTrade, Trade, WrittenCredit};
 
 /// The sums over a derivative set: values in units, add-ons in thousandths.
@@ -13,9 +13,9 @@ pub struct DerivativeTally {
 }
 
 impl DerivativeTally {
-    pub fn trade(&mut self, trade: &Trade) {
+    pub fn trade(&mut self, trade: &Trade, bands: &Bands) {
         self.value(trade.value);
-        self.add_on += trade_add_on(trade);
+        self.add_on += trade_add_on(trade, bands);
     }
 
     pub fn written(&mut self, credit: &WrittenCredit, covered: bool) {

@@ -28,12 +28,6 @@ pub fn list() -> Vec<Feature> {
 }
 
 impl Reached {
-    fn pattern(&mut self, holds: bool, name: &'static str) {
-        if holds {
-            self.came(name, [0; 3]);
-        }
-    }
-
     pub(super) fn covers(&mut self, records: &[Record]) {
         let protections: Vec<&Record> = records.iter().filter(|r| r.kind == 3).collect();
         let available = |record: &&Record| record.amounts[0] - record.amounts[1];

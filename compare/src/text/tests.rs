@@ -1,5 +1,5 @@
 use super::words;
-use crate::model::{file, Entry, ROWS};
+use crate::model::{file, Entry, FIRST_RECORD, ROWS};
 
 #[test]
 fn printed_case() {
@@ -7,11 +7,12 @@ fn printed_case() {
     let expected = [
         0x1000_0000,
         0x0000_0032,
+        35_124,
         0x2000_0000,
         0x0000_03E8,
         0x0000_0014,
         0x0000_000A,
-        0xF000_0006,
+        0xF000_0007,
     ];
     assert_eq!(words(printed).unwrap(), expected);
 }
@@ -62,15 +63,96 @@ fn sample_has_every_kind_and_is_accepted() {
 #[test]
 fn mistakes_are_named_with_their_line() {
     for (text, message) in [
-        ("", "no record"),
-        ("asset", "line 1: the first record, and only that, is tier1"),
-        ("tier1 1\n# x\nbond", "line 3: no record is called bond"),
-        ("tier1 1\nasset red", "line 2: asset has no mark red"),
-        ("tier1 1\nasset red=1", "line 2: asset has no field red"),
-        ("tier1 x", "line 1: x is no amount below 2^27"),
-        ("tier1 1\ntrade class=8", "line 2: 8 is no class"),
-        ("tier1 1\nrepo lent=1 lent=1", "line 2: lent is given twice"),
+        ("bond", "line 4: no record is called bond"),
+        ("asset red", "line 4: asset has no mark red"),
+        ("asset red=1", "line 4: asset has no field red"),
+        ("trade class=8", "line 4: 8 is no class"),
+        ("repo lent=1 lent=1", "line 4: lent is given twice"),
     ] {
-        assert_eq!(words(text), Err(message.to_string()));
+        let text = format!("tier1 1\ndate 2096-03-01\n# x\n{text}");
+        assert_eq!(words(&text), Err(message.to_string()));
+    }
+}
+
+#[test]
+fn mistakes_in_the_head_are_named() {
+    let first = "the first record, and only that, is tier1";
+    let second = "the second record, and only that, is date";
+    for (text, message) in [
+        ("", "no tier1".to_string()),
+        ("# x\n\n", "no tier1".to_string()),
+        ("tier1 1", "no date".to_string()),
+        ("asset", format!("line 1: {first}")),
+        ("date 2096-03-01\ntier1 1", format!("line 1: {first}")),
+        ("tier1 1\ntier1 1", format!("line 2: {second}")),
+        ("tier1 1\n\nasset", format!("line 3: {second}")),
+        (
+            "tier1 1\ndate 2096-03-01\ntier1 1",
+            format!("line 3: {first}"),
+        ),
+        (
+            "tier1 1\ndate 2096-03-01\nasset\ndate 2096-03-01",
+            format!("line 4: {second}"),
+        ),
+        ("tier1 x", "line 1: x is no amount below 2^27".to_string()),
+        ("tier1", "line 1: tier1 has one value".to_string()),
+        ("tier1 1 2", "line 1: tier1 has one value".to_string()),
+        ("tier1 1\ndate", "line 2: date has one value".to_string()),
+    ] {
+        assert_eq!(words(text), Err(message));
+    }
+}
+
+fn date_word(date: &str) -> Result<u32, String> {
+    let book = words(&format!("tier1 1\ndate {date} # x"))?;
+    assert_eq!(book.len(), FIRST_RECORD + 1);
+    Ok(book[2])
+}
+
+#[test]
+fn dates_are_days_since_2000() {
+    for (date, number) in [
+        ("2000-01-01", 0),
+        ("2000-02-29", 59),
+        ("2096-03-01", 35_124),
+        ("2099-12-31", 36_524),
+    ] {
+        assert_eq!(date_word(date), Ok(number));
+    }
+}
+
+#[test]
+fn mistakes_in_dates_are_named() {
+    for date in [
+        "2099-02-29",
+        "2096-02-30",
+        "2096-00-01",
+        "2096-13-01",
+        "2096-01-00",
+    ] {
+        assert_eq!(
+            date_word(date),
+            Err(format!("line 2: the calendar has no {date}"))
+        );
+    }
+    for date in ["1999-12-31", "2100-01-01", "0000-01-01", "9999-12-31"] {
+        let message = format!("line 2: {date} is not in 2000-01-01 to 2099-12-31");
+        assert_eq!(date_word(date), Err(message));
+    }
+    for date in [
+        "35124",
+        "2096-3-1",
+        "2096-03",
+        "2096/03/01",
+        "01-03-2096",
+        "2096-03-01-01",
+        "+096-03-01",
+        "2096-+3-01",
+        "-2096-03-01",
+        "2096-03-0x",
+        "2096-03-",
+    ] {
+        let message = format!("line 2: {date} is no date like 2096-03-01");
+        assert_eq!(date_word(date), Err(message));
     }
 }

@@ -9,8 +9,7 @@ use native.Mathlib.Omega.{arith}
 use lib.IntN.{ℤ, pos, natAbs}
 use lib.ListN.{length, getD}
 use Rattle.rules.specs.declared.Entry.{Entry}
-use Rattle.rules.specs.declared.Head.{Head}
-use Rattle.rules.specs.Book.{Item, asset, derivatives, financing, offBalance, Placed, total}
+use Rattle.rules.specs.Book.{Head, Item, asset, derivatives, financing, offBalance, Placed, total}
 use Rattle.rules.specs.Read.{headOf}
 use Rattle.rules.specs.Rows.{sumOver, sumsOf, rowsOf}
 use Rattle.rules.specs.Filing.{Outcome, early, refused, accepted, outcomeOf, Filing, filingOf, filing}

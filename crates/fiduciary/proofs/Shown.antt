@@ -8,8 +8,7 @@ use lib.IntN.{ℤ, pos, _+ℤ_, +ℤ-idr, negℤ-+ℤ}
 use lib.ListN.{length}
 use Rattle.rules.specs.declared.Bands.{Bands}
 use Rattle.rules.specs.declared.Entry.{Entry}
-use Rattle.rules.specs.declared.Head.{Head}
-use Rattle.rules.specs.Book.{Asset, Item, asset, derivatives, financing, offBalance, Placed}
+use Rattle.rules.specs.Book.{Head, Asset, Item, asset, derivatives, financing, offBalance, Placed}
 use Rattle.rules.specs.Read.{headOf}
 use Rattle.rules.specs.Rows.{assetRows, row1, row2, minus, sumOver, sumsOf, onBalance, rowsOf}
 use Rattle.rules.specs.Filing.{Outcome, early, refused, accepted, outcomeOf, filingOf, filing}

@@ -7,9 +7,8 @@ use lib.IntN.{ℤ}
 use lib.ListN.{length, drop}
 use Rattle.rules.specs.declared.Bands.{Bands}
 use Rattle.rules.specs.declared.Entry.{Entry}
-use Rattle.rules.specs.declared.Head.{Head}
 use Rattle.rules.specs.declared.Sums.{Sums}
-use Rattle.rules.specs.Book.{Asset, Item, asset, derivatives, financing, offBalance, Placed}
+use Rattle.rules.specs.Book.{Head, Asset, Item, asset, derivatives, financing, offBalance, Placed}
 use Rattle.rules.specs.Read.{headOf}
 use Rattle.rules.specs.Ratio.{tier1Of, verdictOf}
 use Rattle.rules.specs.Rows.{AssetRows, row1, row2, sumOver, sumsOf, exposureRow, rowsOf}

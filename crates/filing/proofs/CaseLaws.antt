@@ -4,8 +4,8 @@ use mathlib.Core.Path.{_≡_, refl, _∙_, ap}
 use mathlib.Core.List.{List, _++_}
 use lib.IntN.{ℤ, pos}
 use lib.ListN.{drop}
+use Rattle.rules.specs.Book.{Head}
 use Rattle.rules.specs.declared.Sums.{Sums}
-use Rattle.rules.specs.declared.Head.{Head}
 use Rattle.rules.specs.Ratio.{tier1Of, verdictOf}
 use Rattle.rules.specs.Rows.{exposureRow, rowsOf}
 use Rattle.template.specs.Sections.{SumsFit}
@@ -27,7 +27,7 @@ pub fits-admitted : (a : Admission) (s : Sums) → a ≡ Admitted s → Admissio
 fits-admitted a s e p = rw e at p
 
 -- the rows and the verdict of an admitted book, from what each call gave
-pub published : (head : Head) (s : Sums) (rows : List ℤ) (h : Head) → h ≡ head → (made rows′ : List ℤ) → made ≡ rowsOf s (h .gain) (h .loss) → rows′ ≡ made ++ drop 22 rows
-    → (e v : ℕ) → pos e ≡ exposureRow s → v ≡ verdictOf (tier1Of (h .gain) (h .loss)) (pos e)
+pub published : (head : Head) (s : Sums) (rows : List ℤ) (gain loss : ℕ) → gain ≡ head .gain → loss ≡ head .loss → (made rows′ : List ℤ) → made ≡ rowsOf s gain loss → rows′ ≡ made ++ drop 22 rows
+    → (e v : ℕ) → pos e ≡ exposureRow s → v ≡ verdictOf (tier1Of gain loss) (pos e)
     → (v ≡ verdictOf (tier1Of (head .gain) (head .loss)) (exposureRow s)) × (rows′ ≡ rowsOf s (head .gain) (head .loss) ++ drop 22 rows)
-published head s rows h hq made rows′ mq rq e v eq vq = (vq ∙ rw (hq, eq), rq ∙ rw (mq, hq))
+published head s rows gain loss gq lq made rows′ mq rq e v eq vq = (vq ∙ rw (gq, lq, eq), rq ∙ rw (mq, gq, lq))

@@ -26,23 +26,19 @@ use denote.Plain.{uint-makes}
 use denote.Builtin.{u32, usize, bool, i64}
 use denote.Slice.{sliceVal, Room, sliceTy}
 use denote.Steps.{only, owned, nothing}
-use denote.Struct.Laws as LL
 use denote.Enum.Laws as LE
 use denote.Triple.Spec.{tripleOf}
 use denote.Triple.Statement.{Contract}
 use denote.Triple.Clauses.{Lasts}
 use denote.Triple.Walked.{says}
 use Rattle.rules.specs.declared.Entry.{Entry}
-use Rattle.rules.specs.declared.Head.{Head}
-use Rattle.rules.proofs.Head as TH
-use Rattle.rules.proofs.Head.Laws as TH′
 use Rattle.rules.specs.Read.{headOf}
 use Rattle.rules.specs.Filing.{admission, registerAfter}
 use Rattle.reading.specs.declared.Admission.{Admission}
 use Rattle.reading.proofs.Admission as TA
 use Rattle.reading.proofs.Admission.Laws as TA′
 use Rattle.register.proofs.Rows.{R, mach-admission, IsAdmission, admission-makes, int64}
-use Rattle.lending.proofs.Known.{Known, told, known, KnownCase, told-case, known-case}
+use Rattle.lending.proofs.Known.{KnownCase, told-case, known-case}
 use Rattle.lending.proofs.Relend.{slice, Claim}
 use Rattle.lending.proofs.Lent.{mut-own, shr-own, left, left-shared, left-both, Call, calls-plain, calls-passed, calls-both}
 use Rattle.filing.specs.declared.Answer.{Answer}
@@ -50,21 +46,12 @@ use Rattle.filing.specs.Answers.{earlyNumber, refusedIn, admissionOf, an
 use Rattle.filing.proofs.Answer as TN
 use Rattle.filing.proofs.Answer.Laws as TN′
 use Rattle.filing.proofs.early.early as early′
-use Rattle.reading.proofs.head.head_of as head-of′
+use Rattle.reading.proofs.head.protections_of as protections-of′
 use Rattle.filing.proofs.stages.is_refused as is-refused′
 use Rattle.filing.proofs.admit.admit as admit′
 use Rattle.filing.proofs.report.report as report′
 
--- ---- the head and the answer
-
-abbrev pub mach-head : Head → Val
-mach-head = LL.val TH.the-type TH′.the-laws
-
-abbrev pub IsHead : Head → Type 0
-IsHead = Known TH.the-type TH′.the-laws
-
-pub its-protections : (h : Head) → IsHead h → h .protections < 2 ^ 64
-its-protections h g = LL.owed TH.the-type TH′.the-laws h _ g .0 .1
+-- ---- the answer
 
 abbrev pub mach-answer : Answer → Val
 mach-answer = LE.val TN.the-type TN′.the-laws
@@ -89,9 +76,6 @@ module _ {M : Type 1} (𝓤 : URA M) (H : Heap 𝓤) (A : Atoms 𝓤) where
 
   -- each may be stored
   module _ (W : Given 𝓤 H A) where
-    pub typed-head : (h : Head) → IsHead h → Holds (hasTy TH′.mir (mach-head h)) × WT (mach-head h)
-    typed-head h g = LL.lawful TH.the-type TH′.the-laws 𝓤 H A W .typed h _ g .0
-
     pub typed-answer : (a : Answer) → IsAnswer a → Holds (hasTy TN′.mir (mach-answer a)) × WT (mach-answer a)
     typed-answer a g = LE.lawful TN.the-type TN′.the-laws 𝓤 H A W tt .typed a _ g .0
 
@@ -101,8 +85,8 @@ module _ {M : Type 1} (𝓤 : URA M) (H : Heap 𝓤) (A : Atoms 𝓤) (mem : Mem
   abbrev pub EarlyOne : Contract 𝓤
   EarlyOne = tripleOf 𝓤 H A early′.signature (early′.spec 𝓤 H A mem run)
 
-  abbrev pub HeadOf : Contract 𝓤
-  HeadOf = tripleOf 𝓤 H A head-of′.signature (head-of′.spec 𝓤 H A mem run)
+  abbrev pub ProtectionsOf : Contract 𝓤
+  ProtectionsOf = tripleOf 𝓤 H A protections-of′.signature (protections-of′.spec 𝓤 H A mem run)
 
   abbrev pub IsRefused : Contract 𝓤
   IsRefused = tripleOf 𝓤 H A is-refused′.signature (is-refused′.spec 𝓤 H A mem run)
@@ -136,11 +120,11 @@ module _ {M : Type 1} (𝓤 : URA M) (H : Heap 𝓤) (A : Atoms 𝓤) (mem : Mem
           -- [the argument; true; true; the token; the book]
           move ! (4 ∷ 0 ∷ []) $ fjoin ! $ move ! (3 ∷ 1 ∷ []) $ join ! $ join ! $ join ! $ done !
 
-      abbrev pub to-head-of : HeadOf .Ghost
-      to-head-of = (((κ, tt), (p, tt), tt, (slice b o γ ws, tt), (sliceVal (b, o) m ∷ [], tt)), tt)
+      abbrev pub to-protections-of : ProtectionsOf .Ghost
+      to-protections-of = (((κ, tt), (p, tt), tt, (slice b o γ ws, tt), (sliceVal (b, o) m ∷ [], tt)), tt)
 
-      pub head-of-pre : ent 𝓤 Given-book (HeadOf .pre to-head-of)
-      head-of-pre =
+      pub protections-of-pre : ent 𝓤 Given-book (ProtectionsOf .pre to-protections-of)
+      protections-of-pre =
           qed W (‵ (flft κ p) ∷ ‵ (shr-own u32 (named 0) κ γ b o m ws) ∷ []) ∵ nothing ! $ nothing ! $ nothing ! $
           move ! (4 ∷ 0 ∷ []) $ fjoin ! $ move ! (3 ∷ 1 ∷ []) $ join ! $ join ! $ join ! $ done !
 
@@ -188,15 +172,15 @@ module _ {M : Type 1} {𝓤 : URA M} {H : Heap 𝓤} {A : Atoms 𝓤} {K : Type 
       (λ w. left-shared 𝓤 H A W u32 κ p (Lasts early′.ended (κ, tt) (slice b o γ ws, (n, tt))) (λ _. fsep ftrue (fsep ftrue ftrue)) (λ r. r ≡ earlyNumber ws n) w)
       os (λ w r is. regoal t after (ap only (is .0 .0)) refl $ k r (is .0 .1) (is .1))
 
-  pub calls-head-of : Call K W E xs (HeadOf 𝓤 H A mem run) G after → (ℓ : Lifetime) {κ : Lft} {p : Share} {γ : GName} {b o m : ℕ} (ws : List ℕ)
-      → Opds K W (raw (HeadOf 𝓤 H A mem run .pre (to-head-of 𝓤 H A mem run W κ p b o γ m ws)) ∷ ‵ (shr-own u32 ℓ κ γ b o m ws) ∷ Γ) E xs (sliceVal (b, o) m ∷ [])
-      → (IsHead (headOf ws) → Seq K W (‵ (shr-own u32 ℓ κ γ b o m ws) ∷ ‵ (flft κ p) ∷ Γ) (after (mach-head (headOf ws))))
+  pub calls-protections-of : Call K W E xs (ProtectionsOf 𝓤 H A mem run) G after → (ℓ : Lifetime) {κ : Lft} {p : Share} {γ : GName} {b o m : ℕ} (ws : List ℕ)
+      → Opds K W (raw (ProtectionsOf 𝓤 H A mem run .pre (to-protections-of 𝓤 H A mem run W κ p b o γ m ws)) ∷ ‵ (shr-own u32 ℓ κ γ b o m ws) ∷ Γ) E xs (sliceVal (b, o) m ∷ [])
+      → (headOf ws .protections < 2 ^ 64 → Seq K W (‵ (shr-own u32 ℓ κ γ b o m ws) ∷ ‵ (flft κ p) ∷ Γ) (after (vint w64 (headOf ws .protections))))
       → Seq K W (‵ (shr-own u32 ℓ κ γ b o m ws) ∷ ‵ (flft κ p) ∷ Γ) G
-  calls-head-of cl ℓ {κ} {p} {γ} {b} {o} {m} ws os k =
-      calls-passed {H = H} {A = A} {W = W} t (HeadOf 𝓤 H A mem run) cl u32 ℓ ws (to-head-of 𝓤 H A mem run W κ p b o γ m ws) (head-of-pre 𝓤 H A mem run W κ p b o γ m ws)
-      (λ r w. Is TH.the-row r (w ∷ []) × (r ≡ headOf ws))
-      (λ w. left-shared 𝓤 H A W TH.the-row κ p (Lasts head-of′.ended (κ, tt) (slice b o γ ws, tt)) (λ _. fsep ftrue ftrue) (λ r. r ≡ headOf ws) w)
-      os (λ w r is. regoal t after (told TH.the-type TH′.the-laws r w (is .0) ∙ ap mach-head (is .1)) refl $ k (subst IsHead (is .1) (known TH.the-type TH′.the-laws r w (is .0))))
+  calls-protections-of cl ℓ {κ} {p} {γ} {b} {o} {m} ws os k =
+      calls-passed {H = H} {A = A} {W = W} t (ProtectionsOf 𝓤 H A mem run) cl u32 ℓ ws (to-protections-of 𝓤 H A mem run W κ p b o γ m ws) (protections-of-pre 𝓤 H A mem run W κ p b o γ m ws)
+      (λ r w. Is usize r (w ∷ []) × (r ≡ headOf ws .protections))
+      (λ w. left-shared 𝓤 H A W usize κ p (Lasts protections-of′.ended (κ, tt) (slice b o γ ws, tt)) (λ _. fsep ftrue ftrue) (λ r. r ≡ headOf ws .protections) w)
+      os (λ w r is. regoal t after (ap only (is .0 .0) ∙ ap (vint w64) (is .1)) refl $ k (subst (λ (x : ℕ). x < 2 ^ 64) (is .1) (is .0 .1)))
 
   -- ---- over the book and a lent slice
 

@@ -1,3 +1,4 @@
+pub mod EarlyLaws
 pub mod Loads
 pub mod StageLaws
 pub mod FilingLaws

@@ -11,10 +11,9 @@ use lib.Seq.{drop-at}
 use Rattle.rules.specs.declared.Draw.{Draw}
 use Rattle.rules.specs.declared.Entry.{Entry}
 use Rattle.rules.specs.Word.{word, kindOf, payloadOf, minusZero}
-use Rattle.rules.specs.declared.Head.{Head}
-use Rattle.rules.specs.Book.{Placed}
+use Rattle.rules.specs.Book.{Head, Placed}
 use Rattle.rules.specs.Run.{Run}
-use Rattle.rules.specs.Read.{firstRecord, headFaulty, headOf, itemsOf}
+use Rattle.rules.specs.Read.{firstRecord, headFaulty, dateFaulty, headOf, itemsOf}
 use Rattle.rules.specs.Register.{blank, drawFault, drawn, drawsOver, Settled, unfit, settled, settle}
 use Rattle.rules.specs.Rows.{sumsOf}
 use Rattle.rules.specs.Filing.{Outcome, early, refused, accepted, judged, recordsOutcome, admission, registerAfter}
@@ -33,7 +32,7 @@ use Rattle.filing.proofs.Loads.{records-are}
 
 -- ---- before the records
 
--- a good head has two words and at most 4,096 protections
+-- a good head has all its words and at most 4,096 protections
 pub head-good : (ws : List ℕ) → headFaulty ws ≡ false → (firstRecord ≤ length ws) × (headOf ws .protections ≤ 4096)
 unfolding headFaulty headOf
 head-good ws e =
@@ -46,13 +45,15 @@ head-good ws e =
 
 pub refused-early : (ws : List ℕ) (entries r : ℕ) → r ≡ earlyNumber ws entries → (r ≡ 0 → ⊥) → admission ws entries ≡ early r
 unfolding earlyNumber admission
-refused-early ws entries r q n = rw q (go (ltb (2 ^ 20) (length ws)) (headFaulty ws) (ltb entries (headOf ws .protections)) (λ z. n (q ∙ z)))
+refused-early ws entries r q n = rw q (go (ltb (2 ^ 20) (length ws)) (headFaulty ws) (dateFaulty ws) (ltb entries (headOf ws .protections)) (λ z. n (q ∙ z)))
   where
-    go : (a b c : Bool) → (_≡_ {A = ℕ} (cond a 2 (cond b 3 (cond c 4 0))) 0 → ⊥) → cond a (early 2) (cond b (early 3) (cond c (early 4) (recordsOutcome ws))) ≡ early (cond a 2 (cond b 3 (cond c 4 0)))
-    go true b c h = refl
-    go false true c h = refl
-    go false false true h = refl
-    go false false false h = absurd (h refl)
+    go : (a b d c : Bool) → (_≡_ {A = ℕ} (cond a 2 (cond b 3 (cond d 16 (cond c 4 0)))) 0 → ⊥)
+        → cond a (early 2) (cond b (early 3) (cond d (early 16) (cond c (early 4) (recordsOutcome ws)))) ≡ early (cond a 2 (cond b 3 (cond d 16 (cond c 4 0))))
+    go true b d c h = refl
+    go false true d c h = refl
+    go false false true c h = refl
+    go false false false true h = refl
+    go false false false false h = absurd (h refl)
 
 -- what is known where the records are looked at
 pub record Looked (ws : List ℕ) (entries : ℕ) : Type 0 where
@@ -63,14 +64,16 @@ pub record Looked (ws : List ℕ) (entries : ℕ) : Type 0 where
 
 pub looked-at : (ws : List ℕ) (entries r : ℕ) → r ≡ earlyNumber ws entries → r ≡ 0 → Looked ws entries
 unfolding earlyNumber admission
-looked-at ws entries r q z = go (ltb (2 ^ 20) (length ws)) refl (headFaulty ws) refl (ltb entries (headOf ws .protections)) refl (sym q ∙ z)
+looked-at ws entries r q z = go (ltb (2 ^ 20) (length ws)) refl (headFaulty ws) refl (dateFaulty ws) refl (ltb entries (headOf ws .protections)) refl (sym q ∙ z)
   where
-    go : (a : Bool) → ltb (2 ^ 20) (length ws) ≡ a → (b : Bool) → headFaulty ws ≡ b → (c : Bool) → ltb entries (headOf ws .protections) ≡ c → _≡_ {A = ℕ} (cond a 2 (cond b 3 (cond c 4 0))) 0 → Looked ws entries
-    go true e b f c g h = let o : ⊥ = omega arith in absurd o
-    go false e true f c g h = let o : ⊥ = omega arith in absurd o
-    go false e false f true g h = let o : ⊥ = omega arith in absurd o
-    go false e false f false g h =
-        record { readable = record { within = head-good ws f .0; short = ltb-false _ _ e }; count = head-good ws f .1; room = ltb-false _ _ g; outcome = simp (e, f, g) }
+    go : (a : Bool) → ltb (2 ^ 20) (length ws) ≡ a → (b : Bool) → headFaulty ws ≡ b → (d : Bool) → dateFaulty ws ≡ d → (c : Bool) → ltb entries (headOf ws .protections) ≡ c
+        → _≡_ {A = ℕ} (cond a 2 (cond b 3 (cond d 16 (cond c 4 0)))) 0 → Looked ws entries
+    go true e b f d i c g h = let o : ⊥ = omega arith in absurd o
+    go false e true f d i c g h = let o : ⊥ = omega arith in absurd o
+    go false e false f true i c g h = let o : ⊥ = omega arith in absurd o
+    go false e false f false i true g h = let o : ⊥ = omega arith in absurd o
+    go false e false f false i false g h =
+        record { readable = record { within = head-good ws f .0; short = ltb-false _ _ e }; count = head-good ws f .1; room = ltb-false _ _ g; outcome = simp (e, f, i, g) }
 
 -- ---- what the draws leave
 

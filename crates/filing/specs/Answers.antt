@@ -6,10 +6,10 @@ use mathlib.Core.List.{List, _++_}
 use lib.Dec.{ltb}
 use lib.IntN.{ℤ}
 use lib.ListN.{length, drop}
+use Rattle.rules.specs.Book.{Head}
 use Rattle.rules.specs.declared.Bands.{Bands}
 use Rattle.rules.specs.declared.Entry.{Entry}
-use Rattle.rules.specs.declared.Head.{Head}
-use Rattle.rules.specs.Read.{headFaulty, headOf}
+use Rattle.rules.specs.Read.{headFaulty, dateFaulty, headOf}
 use Rattle.rules.specs.Ratio.{tier1Of, verdictOf}
 use Rattle.rules.specs.Rows.{sumsOf, exposureRow, rowsOf}
 use Rattle.rules.specs.Filing.{Outcome, early, refused, accepted, Filing}
@@ -36,13 +36,14 @@ verdictOfAnswer (Accepted verdict) = verdict
 
 -- ---- the stages
 
--- the number 2, 3 or 4, or 0 where the records are looked at
+-- the number 2, 3, 16 or 4, or 0 where the records are looked at
 unfoldable pub earlyNumber : List ℕ → (entries : ℕ) → ℕ
 earlyNumber ws entries =
     cond (ltb (2 ^ 20) (length ws)) 2
     (cond (headFaulty ws) 3
+    (cond (dateFaulty ws) 16
     (cond (ltb entries (headOf ws .protections)) 4
-    0))
+    0)))
 
 abbrev pub refusedIn : Admission → Bool
 refusedIn (Admitted sums) = false

@@ -2,7 +2,7 @@
 use crate::early::early;
 use crate::stages::is_refused;
 use reading::Admission;
-use reading::head::head_of;
+use reading::head::protections_of;
 use register::clear;
 use register::settle;
 use rules::Entry;
@@ -22,10 +22,10 @@ pub fn admit(book: &[u32], register: &mut [Entry]) -> Admission
     if number != causes::NONE {
         return Admission::Refused { number, place: 0 };
     }
-    let head = head_of(book);
-    let a = settle(book, register, head.protections);
+    let protections = protections_of(book);
+    let a = settle(book, register, protections);
     if is_refused(a) {
-        clear(register, head.protections);
+        clear(register, protections);
         return a;
     }
     a

@@ -1,13 +1,14 @@
 // The refusals before the records.
+use reading::head::date_faulty;
 use reading::head::head_faulty;
-use reading::head::head_of;
+use reading::head::protections_of;
 use rules::causes;
 use rules::limits;
 ghost use mathlib.Core.Path.{_≡_};
 ghost use denote.Ref.{now};
 ghost use Rattle.filing.specs.Answers.{earlyNumber};
 
-// 2 where the book is too long, 3 where its head is not good, 4 where the register is too short for it; else 0.
+// 2 where the book is too long, 3 where its head is not good, 16 where its date is not, 4 where the register is too short for it; else 0.
 pub fn early(book: &[u32], entries: usize) -> u32
     ensures { λ r. ⌜ r ≡ earlyNumber (now (book .entry)) entries ⌝ }
 {
@@ -17,8 +18,10 @@ pub fn early(book: &[u32], entries: usize) -> u32
     if head_faulty(book) {
         return causes::HEAD_FAULTY;
     }
-    let head = head_of(book);
-    if entries < head.protections {
+    if date_faulty(book) {
+        return causes::DATE_FAULTY;
+    }
+    if entries < protections_of(book) {
         return causes::REGISTER_SHORT;
     }
     causes::NONE

@@ -1,7 +1,8 @@
 // The template, written only on acceptance.
 use crate::Answer;
 use reading::Admission;
-use reading::head::head_of;
+use reading::head::tier1_gain;
+use reading::head::tier1_loss;
 use rules::Sums;
 use template::exposure::exposure;
 use template::ratio::verdict;
@@ -24,9 +25,10 @@ fn publish(book: &[u32], rows: &mut [i64], s: Sums) -> u32
     ensures { λ v. ⌜ (v ≡ verdictOf (tier1Of (headOf (now (book .entry)) .gain) (headOf (now (book .entry)) .loss)) (exposureRow s))
         × (now (rows .exit) ≡ rowsOf s (headOf (now (book .entry)) .gain) (headOf (now (book .entry)) .loss) ++ drop 22 (now (rows .entry))) ⌝ }
 {
-    let head = head_of(book);
-    copy_out(rows_of(s, head.gain, head.loss), rows);
-    verdict(head.gain, head.loss, exposure(s))
+    let gain = tier1_gain(book);
+    let loss = tier1_loss(book);
+    copy_out(rows_of(s, gain, loss), rows);
+    verdict(gain, loss, exposure(s))
 }
 
 // The answer to a book that came so far, with the rows where it was admitted.

@@ -1,4 +1,4 @@
--- What an accepted book is known by: it is not too long, its head is good, the register is long enough, its reading ends without a
+-- What an accepted book is known by: it is not too long, its head and its date are good, the register is long enough, its reading ends without a
 -- fault and its covers all fit. And the number is 0 just where a book is accepted. Assumes nothing.
 use Prim.Native.Nat.{ℕ, zero, suc, _≤_, _^_}
 use mathlib.Core.Path.{_≡_, refl}
@@ -12,7 +12,7 @@ use Rattle.rules.specs.declared.Draw.{Draw}
 use Rattle.rules.specs.declared.Entry.{Entry}
 use Rattle.rules.specs.Book.{Placed}
 use Rattle.rules.specs.Run.{Run}
-use Rattle.rules.specs.Read.{headFaulty, headOf, protectionsOf, itemsOf}
+use Rattle.rules.specs.Read.{headFaulty, dateFaulty, headOf, protectionsOf, itemsOf}
 use Rattle.rules.specs.Register.{entryOf, drawsOver, drawFault, drawn, Settled, unfit, settled, ifFit, settle}
 use Rattle.rules.specs.Filing.{Outcome, early, refused, accepted, judged, recordsOutcome, admission, outcomeOf}
 
@@ -20,6 +20,7 @@ pub record Accepted (ws : List ℕ) (rows entries : ℕ) (items : List Placed) (
   pub rows-enough : 22 ≤ rows
   pub short : length ws ≤ 2 ^ 20
   pub head : headFaulty ws ≡ false
+  pub date : dateFaulty ws ≡ false
   pub room : headOf ws .protections ≤ entries
   pub number : itemsOf ws .number ≡ 0
   pub read : itemsOf ws .records ≡ items
@@ -42,21 +43,23 @@ judged-is r (settled entries) items left e = go (eqb (r .number) 0) refl e
 
 pub accepted-is : (ws : List ℕ) (rows entries : ℕ) (items : List Placed) (left : List Entry) → outcomeOf ws rows entries ≡ accepted items left → Accepted ws rows entries items left
 unfolding outcomeOf admission recordsOutcome
-accepted-is ws rows entries items left e = go (ltb rows 22) refl (ltb (2 ^ 20) (length ws)) refl (headFaulty ws) refl (ltb entries (headOf ws .protections)) refl e
+accepted-is ws rows entries items left e = go (ltb rows 22) refl (ltb (2 ^ 20) (length ws)) refl (headFaulty ws) refl (dateFaulty ws) refl (ltb entries (headOf ws .protections)) refl e
   where
-    go : (a : Bool) → ltb rows 22 ≡ a → (b : Bool) → ltb (2 ^ 20) (length ws) ≡ b → (c : Bool) → headFaulty ws ≡ c → (d : Bool) → ltb entries (headOf ws .protections) ≡ d
-        → cond a (early 1) (cond b (early 2) (cond c (early 3) (cond d (early 4) (recordsOutcome ws)))) ≡ accepted items left
+    go : (a : Bool) → ltb rows 22 ≡ a → (b : Bool) → ltb (2 ^ 20) (length ws) ≡ b → (c : Bool) → headFaulty ws ≡ c → (f : Bool) → dateFaulty ws ≡ f → (d : Bool) → ltb entries (headOf ws .protections) ≡ d
+        → cond a (early 1) (cond b (early 2) (cond c (early 3) (cond f (early 16) (cond d (early 4) (recordsOutcome ws))))) ≡ accepted items left
         → Accepted ws rows entries items left
-    go true p b q c r d s h = early-not 1 items left h
-    go false p true q c r d s h = early-not 2 items left h
-    go false p false q true r d s h = early-not 3 items left h
-    go false p false q false r true s h = early-not 4 items left h
-    go false p false q false r false s h =
+    go true p b q c r f t d s h = early-not 1 items left h
+    go false p true q c r f t d s h = early-not 2 items left h
+    go false p false q true r f t d s h = early-not 3 items left h
+    go false p false q false r true t d s h = early-not 16 items left h
+    go false p false q false r false t true s h = early-not 4 items left h
+    go false p false q false r false t false s h =
         let j = judged-is (itemsOf ws) _ items left h in
         record {
           rows-enough = ltb-false rows 22 p;
           short = ltb-false (2 ^ 20) (length ws) q;
           head = r;
+          date = t;
           room = ltb-false entries _ s;
           number = j .0;
           read = j .1;
@@ -89,8 +92,9 @@ numbered ws rows entries =
     choose (ltb rows 22) earlies
     (choose (ltb (2 ^ 20) (length ws)) earlies
     (choose (headFaulty ws) earlies
+    (choose (dateFaulty ws) earlies
     (choose (ltb entries (headOf ws .protections)) earlies
-    (numbered-judged (itemsOf ws) (map entryOf (protectionsOf ws .records)) (drawsOver (itemsOf ws .records))))))
+    (numbered-judged (itemsOf ws) (map entryOf (protectionsOf ws .records)) (drawsOver (itemsOf ws .records)))))))
   where
     choose : (b : Bool) {o p : Outcome} → Numbered o → Numbered p → Numbered (cond b o p)
     choose true g h = g

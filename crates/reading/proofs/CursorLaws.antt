@@ -9,7 +9,6 @@ use lib.Dec.{eqb}
 use lib.ListN.{length, drop}
 use Rattle.rules.specs.declared.Bands.{Bands}
 use Rattle.rules.specs.declared.Draw.{Draw}
-use Rattle.rules.specs.declared.Head.{Head}
 use Rattle.rules.specs.declared.Sums.{Sums}
 use Rattle.rules.specs.Run.{runFrom}
 use Rattle.rules.specs.Read.{firstRecord, headOf, protectionTurn, protectionsOf, itemsOf}
@@ -108,10 +107,10 @@ unfolding protectionsOf
 protections-within ws l = fine-run (length ws) perWord nothing (protectionTurn ws) (fine-protection ws) (headOf ws .protections) firstRecord l .within
 
 module _ {ws : List ℕ} {c : Cursor} (so : Sound ws c) (b : c .begun ≡ false)
-    (h : Head) (hq : h ≡ headOf ws) (r : Protections) (q : r ≡ placeOf (runFrom (protectionTurn ws) (h .protections) firstRecord)) where
+    (k : ℕ) (kq : k ≡ headOf ws .protections) (r : Protections) (q : r ≡ placeOf (runFrom (protectionTurn ws) k firstRecord)) where
   whole : r ≡ placeOf (protectionsOf ws)
   unfolding protectionsOf
-  whole = rw hq at q
+  whole = rw kq at q
 
   pub step-faulty : (number place : ℕ) → r ≡ protections.Refused number place → Right ws c (Ended (Refused number place))
   unfolding placeOf recordsAhead readingOf itemsOf drawsOver

@@ -3,6 +3,7 @@ pub mod AheadLaws
 pub mod ItemLaws
 pub mod RunLaws
 pub mod HeadLaws
+pub mod DateLaws
 pub mod ItemRuns
 pub mod SetBounds
 pub mod SetHead

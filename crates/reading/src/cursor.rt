@@ -1,6 +1,6 @@
 // Where the reading of a book stands, and the next cover from there on.
 use crate::Admission;
-use crate::head::head_of;
+use crate::head::bands_of;
 use crate::steps::Step;
 use crate::steps::next_step;
 use derivatives::set::OpenSet;
@@ -37,8 +37,7 @@ impl Cursor {
     pub fn new(book: &[u32]) -> Cursor
         ensures { λ r. ⌜ r ≡ newCursor (now (book .entry)) ⌝ }
     {
-        let head = head_of(book);
-        let bands = head.bands;
+        let bands = bands_of(book);
         Cursor {
             begun: false,
             inside: false,

@@ -1,7 +1,7 @@
-// Kind 1, the head, and its Tier 1.
+// Kind 1, the head, with its Tier 1 and its reporting date.
+use calendar::bands_of_date;
 use records::presence::word_at;
 use rules::Bands;
-use rules::Head;
 use rules::kinds;
 use rules::lengths;
 use rules::limits;
@@ -11,10 +11,12 @@ use words::amount::minus_zero;
 use words::parts::kind;
 use words::parts::payload;
 ghost use mathlib.Core.Path.{_≡_};
+ghost use Prim.Native.Nat.{_≤_};
 ghost use denote.Ref.{now};
-ghost use Rattle.rules.specs.Read.{headFaulty, headOf};
+ghost use Rattle.rules.specs.Calendar.{lastDate};
+ghost use Rattle.rules.specs.Read.{headFaulty, dateFaulty, reportingDate, headOf};
 
-// "under two words, no good head word or Tier 1 word"
+// "under three words, no good head word or Tier 1 word"
 pub fn head_faulty(book: &[u32]) -> bool
     ensures { λ r. ⌜ r ≡ headFaulty (now (book .entry)) ⌝ }
 {
@@ -35,19 +37,47 @@ pub fn head_faulty(book: &[u32]) -> bool
     minus_zero(tier1)
 }
 
-// Words that are not there are 0, so that every book has a head. The bands of its factors end at 365 and 1,825 days.
-pub fn head_of(book: &[u32]) -> Head
-    ensures { λ r. ⌜ r ≡ headOf (now (book .entry)) ⌝ }
+// "A date out of range, or not a good amount". As numbers, negative amounts and words of every other kind are above the last date.
+pub fn date_faulty(book: &[u32]) -> bool
+    ensures { λ r. ⌜ r ≡ dateFaulty (now (book .entry)) ⌝ }
 {
-    let first = word_at(book, 0);
-    let tier1 = word_at(book, 1);
-    Head {
-        protections: payload(first) as usize,
-        gain: gain(tier1),
-        loss: loss(tier1),
-        bands: Bands {
-            short: 365,
-            medium: 1825,
-        },
+    let date = word_at(book, 2);
+    date > limits::LAST_DATE
+}
+
+// A word that is no good date reads as 0, so that every book has a date.
+fn reporting_date(book: &[u32]) -> u32
+    ensures { λ r. ⌜ (r ≡ reportingDate (now (book .entry))) × (r ≤ lastDate) ⌝ }
+{
+    if date_faulty(book) {
+        return 0;
     }
+    word_at(book, 2)
+}
+
+// Words that are not there are 0, so that every book has a head. First b, how many bought protections there are.
+pub fn protections_of(book: &[u32]) -> usize
+    ensures { λ r. ⌜ r ≡ headOf (now (book .entry)) .protections ⌝ }
+{
+    payload(word_at(book, 0)) as usize
+}
+
+// Tier 1 is a gain less a loss, one of which is 0.
+pub fn tier1_gain(book: &[u32]) -> u32
+    ensures { λ r. ⌜ r ≡ headOf (now (book .entry)) .gain ⌝ }
+{
+    gain(word_at(book, 1))
+}
+
+pub fn tier1_loss(book: &[u32]) -> u32
+    ensures { λ r. ⌜ r ≡ headOf (now (book .entry)) .loss ⌝ }
+{
+    loss(word_at(book, 1))
+}
+
+// The bands that the book's factors go by: worked out once for a book, where its reading begins.
+pub fn bands_of(book: &[u32]) -> Bands
+    ensures { λ r. ⌜ r ≡ headOf (now (book .entry)) .bands ⌝ }
+{
+    bands_of_date(reporting_date(book))
 }

@@ -1,7 +1,7 @@
 // One step of the reading: the protections, what stands where an item is due, or the members of a derivative set up to the next cover.
 use crate::Admission;
 use crate::cursor::Cursor;
-use crate::head::head_of;
+use crate::head::protections_of;
 use crate::items::ItemAnswer;
 use crate::items::item_at;
 use crate::protections::Protections;
@@ -45,8 +45,7 @@ fn protections_step(book: &[u32], c: Cursor) -> Step
     ensures { λ r. ⌜ (ahead (now (book .entry)) c ≡ stepAhead (now (book .entry)) r) × SoundStep (now (book .entry)) c r ⌝ }
 {
     let bands = c.bands;
-    let head = head_of(book);
-    match read_protections(book, head.protections) {
+    match read_protections(book, protections_of(book)) {
         Protections::Refused { number, place } => Step::Ended(Admission::Refused { number, place }),
         Protections::Upto(at) => Step::On(Cursor {
             begun: true,

@@ -1,8 +1,16 @@
--- Document 01, "Records": a book as plain data, once it is read out of the words. Kind 1, the head, is a struct of the code too. Assumes
--- nothing.
+-- Document 01, "Records": a book as plain data, once it is read out of the words. Assumes nothing.
 use Prim.Native.Nat.{ℕ, _+_}
 use mathlib.Core.Bool.{Bool}
 use mathlib.Core.List.{List, [], _∷_}
+use Rattle.rules.specs.declared.Bands.{Bands}
+
+-- kind 1, the head: b, how many bought protections there are; Tier 1 as a gain less a loss, one of which is 0; and the bands of its factors at
+-- the reporting date
+pub record Head : Type 0 where
+  pub protections : ℕ
+  pub gain : ℕ
+  pub loss : ℕ
+  pub bands : Bands
 
 -- kind 3, a bought protection. A larger rank is more junior.
 pub record Protection : Type 0 where

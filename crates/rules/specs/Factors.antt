@@ -8,7 +8,7 @@ use Rattle.rules.specs.declared.Bands.{Bands}
 
 -- ---- add-on factors
 
--- "for 365 days or less, up to 1,825, beyond"
+-- "for 365 days or less, up to 1,825, beyond"; the two figures are the counted days of the bands (request A.2)
 abbrev pub bandOf : Bands → ℕ → ℕ
 bandOf bands days = cond (leb days (bands .short)) 0 (cond (leb days (bands .medium)) 1 2)
 
@@ -30,7 +30,8 @@ factorAt class band = getD (getD factors class []) band 0
 abbrev pub creditFactor : Bool → ℕ
 creditFactor qualifying = cond qualifying 50 100
 
--- "With bit 11 the reset days choose the band; a rates trade with more than 365 days remaining then has at least 5"
+-- "With bit 11 the reset days choose the band; a rates trade with more than 365 days remaining then has at least 5"; "The reset floor uses
+-- the same one-year end"
 unfoldable pub marketFactor : Bands → (class : ℕ) (resets : Bool) (days resetDays : ℕ) → ℕ
 marketFactor bands class resets days resetDays =
     cond resets

@@ -6,16 +6,15 @@ use mathlib.Core.List.{List, _++_, map}
 use lib.Dec.{eqb, ltb}
 use lib.IntN.{ℤ}
 use lib.ListN.{length, drop, replicate}
-use Rattle.rules.specs.declared.Head.{Head}
 use Rattle.rules.specs.declared.Entry.{Entry}
-use Rattle.rules.specs.Book.{Placed}
+use Rattle.rules.specs.Book.{Head, Placed}
 use Rattle.rules.specs.Run.{Run}
-use Rattle.rules.specs.Read.{headFaulty, headOf, protectionsOf, itemsOf}
+use Rattle.rules.specs.Read.{headFaulty, dateFaulty, headOf, protectionsOf, itemsOf}
 use Rattle.rules.specs.Register.{blank, entryOf, drawsOver, Settled, unfit, settled, settle}
 use Rattle.rules.specs.Rows.{sumsOf, exposureRow, rowsOf}
 use Rattle.rules.specs.Ratio.{tier1Of, verdictOf}
 
--- how far a filing comes: refused before the records are looked at (1 to 4), refused in the records, or accepted with its items and
+-- how far a filing comes: refused before the records are looked at (1 to 4, and 16), refused in the records, or accepted with its items and
 -- what is left of the protections
 pub data Outcome : Type 0 where
   early : (number : ℕ) → Outcome
@@ -30,13 +29,14 @@ judged r (settled entries) = cond (eqb (r .number) 0) (accepted (r .records) ent
 unfoldable pub recordsOutcome : List ℕ → Outcome
 recordsOutcome ws = judged (itemsOf ws) (settle (map entryOf (protectionsOf ws .records)) (drawsOver (itemsOf ws .records)))
 
--- a book with a register of so many entries: 2 to 4, then the records
+-- a book with a register of so many entries: 2 and 3, "16 ... after 3 and before 4" (request A.2), then the records
 unfoldable pub admission : List ℕ → ℕ → Outcome
 admission ws entries =
     cond (ltb (2 ^ 20) (length ws)) (early 2)
     (cond (headFaulty ws) (early 3)
+    (cond (dateFaulty ws) (early 16)
     (cond (ltb entries (headOf ws .protections)) (early 4)
-    (recordsOutcome ws)))
+    (recordsOutcome ws))))
 
 -- with so many rows: "rows shorter than 22" comes first
 unfoldable pub outcomeOf : List ℕ → (rows entries : ℕ) → Outcome

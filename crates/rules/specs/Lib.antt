@@ -2,6 +2,7 @@ pub mod Word
 pub mod Book
 pub mod Run
 pub mod Faults
+pub mod Calendar
 pub mod Read
 pub mod Factors
 pub mod Weighted

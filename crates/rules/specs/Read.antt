@@ -5,32 +5,39 @@ use mathlib.Core.Bool.{Bool, false, not, _||_, _&&_, cond}
 use mathlib.Core.List.{List}
 use lib.Dec.{eqb, leb, ltb}
 use lib.ListN.{length, drop}
-use Rattle.rules.specs.declared.Head.{Head}
 use Rattle.rules.specs.Word.{word, kindOf, payloadOf, fieldOf, bitOf, sizeOf, gainOf, lossOf, minusZero, amountsIn}
-use Rattle.rules.specs.Book.{Protection, Asset, Trade, Cover, WrittenCredit, Member, trade, written, DerivativeSet, FinancingTrade, FinancingSet, OffBalance, Item, asset, derivatives, financing, offBalance, Placed}
+use Rattle.rules.specs.Calendar.{lastDate, bandsOf}
+use Rattle.rules.specs.Book.{Head, Protection, Asset, Trade, Cover, WrittenCredit, Member, trade, written, DerivativeSet, FinancingTrade, FinancingSet, OffBalance, Item, asset, derivatives, financing, offBalance, Placed}
 use Rattle.rules.specs.Run.{Turn, over, bad, some, Run, ended, runFrom, sound}
 use Rattle.rules.specs.Faults.{cause, protectionFault, assetFault, derivativeSetFault, tradeFault, writtenFault, coverFault, financingSetFault, financingTradeFault, offBalanceFault}
 
--- ---- the head
+-- ---- the head: its word, Tier 1 and the reporting date (request A.2)
 
 -- where the records behind the head begin
 abbrev pub firstRecord : ℕ
-firstRecord = 2
+firstRecord = 3
 
--- "under two words, no good head word or Tier 1 word"; b is 0 to 4,096
+-- "under three words, no good head word or Tier 1 word"; b is 0 to 4,096
 unfoldable pub headFaulty : List ℕ → Bool
 headFaulty ws =
     ltb (length ws) firstRecord
     || not (eqb (kindOf (word ws 0)) 1) || ltb 4096 (payloadOf (word ws 0))
     || not (eqb (kindOf (word ws 1)) 0) || minusZero (word ws 1)
 
--- the bands end at 365 and 1,825 days
+-- "A date out of range, or not a good amount": minus zero and the negative amounts have larger payloads too
+unfoldable pub dateFaulty : List ℕ → Bool
+dateFaulty ws = not (eqb (kindOf (word ws 2)) 0) || ltb lastDate (payloadOf (word ws 2))
+
+-- a word that is no good date reads as 0, like one that is missing
+unfoldable pub reportingDate : List ℕ → ℕ
+reportingDate ws = cond (dateFaulty ws) 0 (sizeOf (word ws 2))
+
 unfoldable pub headOf : List ℕ → Head
 headOf ws = record {
   protections = payloadOf (word ws 0);
   gain = gainOf (word ws 1);
   loss = lossOf (word ws 1);
-  bands = record { short = 365; medium = 1825 };
+  bands = bandsOf (reportingDate ws);
 }
 
 -- ---- one record

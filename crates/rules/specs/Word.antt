@@ -53,7 +53,7 @@ faultyDays w = ltb 65535 (payloadOf w)
 
 -- how many amounts follow the head word of a record, by its kind from 0 on
 abbrev pub amountsOfKind : ℕ → ℕ
-amountsOfKind kind = getD (0 ∷ 1 ∷ 3 ∷ 3 ∷ 3 ∷ 4 ∷ 5 ∷ 1 ∷ 0 ∷ 7 ∷ 1 ∷ []) kind 0
+amountsOfKind kind = getD (0 ∷ 2 ∷ 3 ∷ 3 ∷ 3 ∷ 4 ∷ 5 ∷ 1 ∷ 0 ∷ 7 ∷ 1 ∷ []) kind 0
 
 abbrev pub amountsIn : ℕ → ℕ
 amountsIn w = amountsOfKind (kindOf w)

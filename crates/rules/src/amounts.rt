@@ -1,5 +1,5 @@
 // How many amounts follow the head word of a record: "A record is a word of its kind, then its amounts".
-pub const HEAD: usize = 1;
+pub const HEAD: usize = 2;
 
 pub const ASSET: usize = 3;
 

@@ -28,3 +28,5 @@ pub const PROTECTION_UNFIT: u32 = 12;
 pub const COVER_BEYOND: u32 = 13;
 
 pub const END_FAULTY: u32 = 14;
+
+pub const DATE_FAULTY: u32 = 16;

@@ -30,19 +30,10 @@ pub struct Draw {
     pub amount: u32,
 }
 
-// The last day of the first and of the second band of the factors.
+// The last day of the first and of the second band of the factors, counted from the reporting date: one and five calendar years.
 pub struct Bands {
     pub short: u32,
     pub medium: u32,
-}
-
-// Kind 1, the head of a book: b, how many bought protections there are; Tier 1 as a gain less a loss, one of which is 0; and the bands that
-// the book's factors go by.
-pub struct Head {
-    pub protections: usize,
-    pub gain: u32,
-    pub loss: u32,
-    pub bands: Bands,
 }
 
 // The sums of which the template is made, in thousandths of the unit, each by the row that it goes into.

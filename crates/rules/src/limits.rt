@@ -8,6 +8,8 @@ pub const ROWS: usize = 22;
 pub const PROTECTIONS: u32 = 4096;
 // "Amounts called days run from 0 to 65,535."
 pub const DAYS: u32 = 65535;
+// "days since 1 January 2000, 0 to 36,524", the last of which is 31 December 2099.
+pub const LAST_DATE: u32 = 36524;
 // Where the records behind the head begin.
 pub const FIRST_RECORD: usize = lengths::HEAD;
 // The entries of the register of those who lend none.

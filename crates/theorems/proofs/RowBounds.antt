@@ -115,7 +115,7 @@ place-fits (Every.more h t) (suc k) = place-fits t k
 
 -- ---- an accepted book
 
--- a good head has its two words
+-- a good head has all its words
 head-words : (ws : List ℕ) → headFaulty ws ≡ false → firstRecord ≤ length ws
 unfolding headFaulty
 head-words ws e = ltb-false (length ws) firstRecord (or-left (ltb (length ws) firstRecord) _ (or-left _ _ (or-left _ _ (or-left _ _ e))))

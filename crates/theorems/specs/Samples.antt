@@ -1,25 +1,30 @@
--- Document 01, "Sample books": the starred ones, as books with the results listed there. Assumes nothing.
+-- Document 01, "Sample books": the starred ones, as books with the results listed there, at the date of request A.2. Assumes nothing.
 use Prim.Native.Nat.{ℕ, _+_, _-_, _*_, _^_}
 use mathlib.Core.Path.{_≡_}
 use mathlib.Core.List.{List, [], _∷_, _++_, map}
 use lib.IntN.{ℤ, pos, negℤ, _+ℤ_}
 use lib.ListN.{length, getD, replicate}
 use Rattle.rules.specs.declared.Entry.{Entry}
+use Rattle.rules.specs.Read.{firstRecord}
 use Rattle.rules.specs.Filing.{Filing, filing}
 
 -- ---- writing a book
 
 -- the head word of a record
-abbrev headWord : (kind payload : ℕ) → ℕ
+abbrev pub headWord : (kind payload : ℕ) → ℕ
 headWord kind payload = kind * 2 ^ 28 + payload
 
 -- an amount below 0
-abbrev minus : ℕ → ℕ
+abbrev pub minus : ℕ → ℕ
 minus n = 2 ^ 27 + n
+
+-- "Sample books and the printed case get the date 35,124 (1 March 2096), from which those counts are still 365 and 1,825"
+abbrev pub sampleDate : ℕ
+sampleDate = 35124
 
 -- a body between the head and the end word
 abbrev bookOf : (protections tier1 : ℕ) → List ℕ → List ℕ
-bookOf protections tier1 body = headWord 1 protections ∷ tier1 ∷ (body ++ (headWord 15 (2 + length body) ∷ []))
+bookOf protections tier1 body = headWord 1 protections ∷ tier1 ∷ sampleDate ∷ (body ++ (headWord 15 (firstRecord + length body) ∷ []))
 
 -- an asset of which all is exposure
 abbrev assetOf : ℕ → List ℕ
@@ -111,7 +116,7 @@ samples =
     ∷ sample (bookOf 0 3 (assetOf 100)) (row 22 (pos 300) ∷ verdict 0 ∷ [])
     ∷ sample (bookOf 0 3 (assetOf 101)) (row 22 (pos 297) ∷ verdict 1 ∷ [])
     ∷ sample (bookOf 0 (minus 1) (assetOf 3)) (row 22 (negℤ (pos 3334)) ∷ verdict 1 ∷ [])
-    -- Head 0x10000000 0x00000000, end 0xF0000002: verdict 2.
+    -- Head 0x10000000 0x00000000 with the date, end 0xF0000003: verdict 2.
     ∷ sample (bookOf 0 0 []) (verdict 2 ∷ [])
     ∷ []
 
@@ -133,10 +138,10 @@ abbrev numberOf : List ℤ → List Entry → Sample → ℕ
 numberOf rows register s = filing (s .book) rows register .number
 
 -- rows and a register that hold another bank's data
-abbrev dirtyRows : List ℤ
+abbrev pub dirtyRows : List ℤ
 dirtyRows = replicate 23 (pos 7)
 
-abbrev dirtyRegister : List Entry
+abbrev pub dirtyRegister : List Entry
 dirtyRegister = replicate 2 (record { entity = 9; rank = 9; days = 9; left = 9 })
 
 pub record AllSamples : Type 0 where

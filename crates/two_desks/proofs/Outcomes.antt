@@ -8,7 +8,7 @@ use lib.ListN.{length}
 use Rattle.rules.specs.declared.Entry.{Entry}
 use Rattle.rules.specs.Book.{Item, Placed}
 use Rattle.rules.specs.Run.{Run}
-use Rattle.rules.specs.Read.{headFaulty, headOf, protectionsOf, itemsOf}
+use Rattle.rules.specs.Read.{headFaulty, dateFaulty, headOf, protectionsOf, itemsOf}
 use Rattle.rules.specs.Register.{entryOf, drawsOf, drawsIn, drawsOver, Settled, unfit, settled, settle}
 use Rattle.rules.specs.Filing.{Outcome, early, refused, accepted, judged, recordsOutcome, admission, outcomeOf}
 use Rattle.rules.specs.TwoDesks.{MoreRecognised}
@@ -17,7 +17,7 @@ use Rattle.rules.proofs.Lists
 use Rattle.rules.proofs.Runs.{Both}
 use Rattle.two_desks.proofs.Related.{MoreItem, MorePlaced}
 use Rattle.two_desks.proofs.Related
-use Rattle.two_desks.proofs.Plain.{head-faulty-same, head-same, protections-same}
+use Rattle.two_desks.proofs.Plain.{head-faulty-same, date-faulty-same, head-same, protections-same}
 use Rattle.two_desks.proofs.Readings.{items-both}
 
 -- ---- the draws
@@ -58,16 +58,17 @@ module _ (xs ys : List ℕ) (l : MoreRecognised xs ys) where
   pub outcomes : (rows entries : ℕ) → Outcomes (outcomeOf xs rows entries) (outcomeOf ys rows entries)
   unfolding outcomeOf admission
   outcomes rows entries =
-      rw (← l .long, ← head-faulty-same xs ys l) (go (ltb rows 22) (ltb (2 ^ 20) (length xs)) (headFaulty xs) refl)
+      rw (← l .long, ← head-faulty-same xs ys l, ← date-faulty-same xs ys l) (go (ltb rows 22) (ltb (2 ^ 20) (length xs)) (headFaulty xs) refl (dateFaulty xs))
     where
       rest : headFaulty xs ≡ false → (d : Bool) → Outcomes (cond d (early 4) (recordsOutcome xs)) (cond d (early 4) (recordsOutcome ys))
       rest h true = earlies
       rest h false = records-both h
 
-      go : (a b c : Bool) → headFaulty xs ≡ c → Outcomes
-          (cond a (early 1) (cond b (early 2) (cond c (early 3) (cond (ltb entries (headOf xs .protections)) (early 4) (recordsOutcome xs)))))
-          (cond a (early 1) (cond b (early 2) (cond c (early 3) (cond (ltb entries (headOf ys .protections)) (early 4) (recordsOutcome ys)))))
-      go true b c h = earlies
-      go false true c h = earlies
-      go false false true h = earlies
-      go false false false h = rw (← head-same xs ys l h) (rest h (ltb entries (headOf xs .protections)))
+      go : (a b c : Bool) → headFaulty xs ≡ c → (e : Bool) → Outcomes
+          (cond a (early 1) (cond b (early 2) (cond c (early 3) (cond e (early 16) (cond (ltb entries (headOf xs .protections)) (early 4) (recordsOutcome xs))))))
+          (cond a (early 1) (cond b (early 2) (cond c (early 3) (cond e (early 16) (cond (ltb entries (headOf ys .protections)) (early 4) (recordsOutcome ys))))))
+      go true b c h e = earlies
+      go false true c h e = earlies
+      go false false true h e = earlies
+      go false false false h true = earlies
+      go false false false h false = rw (← head-same xs ys l h) (rest h (ltb entries (headOf xs .protections)))

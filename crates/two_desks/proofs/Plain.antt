@@ -2,16 +2,17 @@
 -- Assumes nothing.
 use Prim.Native.Nat.{ℕ, suc}
 use mathlib.Core.Path.{_≡_, refl, ap, fun-ext}
-use mathlib.Core.Bool.{Bool, true, false, not, _||_}
+use mathlib.Core.Bool.{Bool, true, false, not, _||_, cond}
 use mathlib.Core.List.{List}
 use native.Mathlib.Omega.{arith}
 use borrow.Author.Tests.{eqb-true, not-false}
 use lib.Dec.{leb, ltb, eqb}
 use lib.ListN.{length}
-use Rattle.rules.specs.Word.{word, kindOf, payloadOf, minusZero}
+use Rattle.rules.specs.Word.{word, kindOf, payloadOf, sizeOf, minusZero}
+use Rattle.rules.specs.Calendar.{lastDate}
 use Rattle.rules.specs.Book.{Protection, Cover, Member}
 use Rattle.rules.specs.Run.{Turn, over, runFrom}
-use Rattle.rules.specs.Read.{headOf, firstRecord, headFaulty, protectionAt, protectionTurn, coverAt, coverTurn, writtenAt, writtenTurn, tradeAt, tradeTurn, memberTurn, protectionsOf}
+use Rattle.rules.specs.Read.{headOf, firstRecord, headFaulty, dateFaulty, reportingDate, protectionAt, protectionTurn, coverAt, coverTurn, writtenAt, writtenTurn, tradeAt, tradeTurn, memberTurn, protectionsOf}
 use Rattle.rules.specs.TwoDesks.{MoreRecognised}
 use Rattle.rules.proofs.Lists.{or-left, or-right, or-true}
 use Rattle.rules.proofs.Runs.{Turns, choices}
@@ -78,6 +79,22 @@ module _ (xs ys : List ℕ) (l : MoreRecognised xs ys) where
       go true e false f = simp (word-same xs ys l 0 1 (eqb-true _ 1 e) refl, or-true)
       go false e b f = simp or-true
 
+  -- what looks at a word only where it is an amount is the same in both: an amount has no marks
+  by-amount : {A : Type 0} (at : ℕ) (f : Bool → ℕ → A) → ((v w : ℕ) → f false v ≡ f false w) → f (eqb (kindOf (word xs at)) 0) (word xs at) ≡ f (eqb (kindOf (word ys at)) 0) (word ys at)
+  by-amount at f none = rw (← kind-same (l .at at)) (go (eqb (kindOf (word xs at)) 0) refl)
+    where
+      go : (a : Bool) → eqb (kindOf (word xs at)) 0 ≡ a → f a (word xs at) ≡ f a (word ys at)
+      go true e = ap (f true) (word-same xs ys l at 0 (eqb-true _ 0 e) refl)
+      go false e = none (word xs at) (word ys at)
+
+  pub date-faulty-same : dateFaulty xs ≡ dateFaulty ys
+  unfolding dateFaulty
+  date-faulty-same = by-amount 2 (λ (a : Bool) (w : ℕ). not a || ltb lastDate (payloadOf w)) (λ v w. refl)
+
+  date-same : reportingDate xs ≡ reportingDate ys
+  unfolding dateFaulty reportingDate
+  date-same = by-amount 2 (λ (a : Bool) (w : ℕ). cond (not a || ltb lastDate (payloadOf w)) 0 (sizeOf w)) (λ v w. refl)
+
   protection-same : (at : ℕ) → protectionTurn xs at ≡ protectionTurn ys at
   unfolding protectionTurn protectionAt
   protection-same at =
@@ -109,7 +126,7 @@ module _ (xs ys : List ℕ) (l : MoreRecognised xs ys) where
       let b = or-left (short || other) many (or-left (short || other || many) none d) in
       let first = eqb-true (kindOf (word xs 0)) 1 (not-false _ (or-right short other b)) in
       let second = eqb-true (kindOf (word xs 1)) 0 (not-false _ (or-right (short || other || many) none d)) in
-      rw (word-same xs ys l 0 1 first refl, word-same xs ys l 1 0 second refl)
+      rw (word-same xs ys l 0 1 first refl, word-same xs ys l 1 0 second refl, date-same)
 
   pub protections-same : headFaulty xs ≡ false → protectionsOf xs ≡ protectionsOf ys
   unfolding protectionsOf

@@ -2,6 +2,7 @@
 
 use super::super::{amounts, word, Random};
 use super::SIGN;
+use crate::model::FIRST_RECORD;
 
 pub fn damage(words: &mut Vec<u32>, start: usize, kind: u32, random: &mut Random) {
     match random.below(8) {
@@ -124,7 +125,7 @@ fn cover(words: &mut [u32], start: usize, random: &mut Random) {
     let Some(credit) = words[..start].iter().rposition(|word| word >> 28 == 6) else {
         return;
     };
-    let named = 2 + 4 * (words[start] & 0xFFF) as usize;
+    let named = FIRST_RECORD + 4 * (words[start] & 0xFFF) as usize;
     if credit + 5 >= start || named + 3 >= credit {
         return;
     }

@@ -172,7 +172,8 @@ fn ratio_and_verdict() {
         assert_eq!((rows.row(22), rows.1), (ratio, verdict));
     }
     let mut rows = [1; ROWS];
-    let answer = file(&[0x1000_0000, 0, 0xF000_0002], &mut rows, &mut []);
+    let empty = [0x1000_0000, 0, 35_124, 0xF000_0003];
+    let answer = file(&empty, &mut rows, &mut []);
     assert_eq!((answer.number, answer.verdict), (0, 2));
     assert_eq!(rows, [0; ROWS]);
 }
@@ -191,5 +192,5 @@ fn equal_rank_and_days_cover() {
     };
     assert_eq!(register, [left, DIRT]);
     // The protection is one rank more senior than what is written.
-    refused(&covered(3, 400, &[1]).end(), 12, 16);
+    refused(&covered(3, 400, &[1]).end(), 12, COVER);
 }

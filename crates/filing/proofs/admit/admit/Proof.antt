@@ -39,7 +39,6 @@ use denote.Exit.{yes}
 use denote.Signature.{plain}
 use denote.Enum.Laws as LE
 use Rattle.rules.specs.declared.Entry.{Entry}
-use Rattle.rules.proofs.Head.Laws as TH′
 use Rattle.rules.specs.Register.{blank}
 use Rattle.rules.specs.Read.{headOf}
 use Rattle.rules.specs.Filing.{Outcome, admission, registerAfter}
@@ -53,13 +52,13 @@ use Rattle.reading.specs.declared.Admission.{Admission}
 use Rattle.reading.specs.declared.Admission.the-variants.{Refused}
 use Rattle.filing.specs.Answers.{earlyNumber, admissionOf}
 use Rattle.filing.proofs.StageLaws.{refused-early, Looked, looked-at, admitted, register-left, register-cleared}
-use Rattle.filing.proofs.FilingCalls.{EarlyOne, HeadOf, IsRefused, its-protections, typed-head, calls-early, calls-head-of, calls-is-refused}
+use Rattle.filing.proofs.FilingCalls.{EarlyOne, ProtectionsOf, IsRefused, calls-early, calls-protections-of, calls-is-refused}
 use Rattle.filing.proofs.early.early.Symbol as early-def
 use Rattle.filing.proofs.early.early.Symbol.{name as #early}
 use Rattle.filing.proofs.early.early.Met as early-thm
-use Rattle.reading.proofs.head.head_of.Symbol as head-of-def
-use Rattle.reading.proofs.head.head_of.Symbol.{name as #head-of}
-use Rattle.reading.proofs.head.head_of.Met as head-of-thm
+use Rattle.reading.proofs.head.protections_of.Symbol as protections-of-def
+use Rattle.reading.proofs.head.protections_of.Symbol.{name as #protections-of}
+use Rattle.reading.proofs.head.protections_of.Met as protections-of-thm
 use Rattle.register.proofs.settle.Symbol as settle-def
 use Rattle.register.proofs.settle.Symbol.{name as #settle}
 use Rattle.register.proofs.settle.Met as settle-thm
@@ -77,7 +76,7 @@ use Rattle.filing.proofs.admit.admit.Code.Mir as code-mir
 
 -- ---- the locals
 abbrev the-locals : List Local
-the-locals = local TA′.mir valueLocal ∷ local book-ty valueLocal ∷ local (param 1) valueLocal ∷ local int32 valueLocal ∷ local TH′.mir valueLocal ∷ local TA′.mir valueLocal ∷ local int64 valueLocal ∷ local tyBool valueLocal ∷ local ref valueLocal ∷ local (sliceTy ref) valueLocal ∷ local tyBool valueLocal ∷ local tyUnit valueLocal ∷ local ref valueLocal ∷ local (sliceTy ref) valueLocal ∷ []
+the-locals = local TA′.mir valueLocal ∷ local book-ty valueLocal ∷ local (param 1) valueLocal ∷ local int32 valueLocal ∷ local int64 valueLocal ∷ local TA′.mir valueLocal ∷ local int64 valueLocal ∷ local tyBool valueLocal ∷ local ref valueLocal ∷ local (sliceTy ref) valueLocal ∷ local tyBool valueLocal ∷ local tyUnit valueLocal ∷ local ref valueLocal ∷ local (sliceTy ref) valueLocal ∷ []
 
 locals-are : code.function .locals ≡ the-locals
 locals-are = refl
@@ -88,7 +87,7 @@ stayed = (stay-none-slice (0 ∷ []) tt (plain (λ _. u32)) yes, (stay-slice (1 
 -- the callees meet their contracts
 record Callees {M : Type 1} (𝓤 : URA M) (H : Heap 𝓤) (A : Atoms 𝓤) (mem : Memory → SProp 𝓤) (run : Routine → Fun 𝓤) (C : Calls 𝓤 H) : Type 2 where
   pub early : Triple 𝓤 (C #early) (EarlyOne 𝓤 H A mem run)
-  pub head-of : Triple 𝓤 (C #head-of) (HeadOf 𝓤 H A mem run)
+  pub protections-of : Triple 𝓤 (C #protections-of) (ProtectionsOf 𝓤 H A mem run)
   pub settle : Triple 𝓤 (C #settle) (Settle 𝓤 H A mem run)
   pub is-refused : Triple 𝓤 (C #is-refused) (IsRefused 𝓤 H A mem run)
   pub clear : Triple 𝓤 (C #clear) (Clear 𝓤 H A mem run)
@@ -150,28 +149,27 @@ module _ {M : Type 1} (𝓤 : URA M) (H : Heap 𝓤) (A : Atoms 𝓤) (W : Given
     fm = fmOf 𝓤 H (W .laws) 𝓣
 
     abbrev E : Env 𝓤 H
-    E = (TA′.mir, l₀) ∷ (book-ty, l₁) ∷ ((param 1), l₂) ∷ (int32, l₃) ∷ (TH′.mir, l₄) ∷ (TA′.mir, l₅) ∷ (int64, l₆) ∷ (tyBool, l₇) ∷ (ref, l₈) ∷ ((sliceTy ref), l₉) ∷ (tyBool, l₁₀) ∷ (tyUnit, l₁₁) ∷ (ref, l₁₂) ∷ ((sliceTy ref), l₁₃) ∷ []
+    E = (TA′.mir, l₀) ∷ (book-ty, l₁) ∷ ((param 1), l₂) ∷ (int32, l₃) ∷ (int64, l₄) ∷ (TA′.mir, l₅) ∷ (int64, l₆) ∷ (tyBool, l₇) ∷ (ref, l₈) ∷ ((sliceTy ref), l₉) ∷ (tyBool, l₁₀) ∷ (tyUnit, l₁₁) ∷ (ref, l₁₂) ∷ ((sliceTy ref), l₁₃) ∷ []
 
     -- a return, from anywhere: the locals are freed
-    leaves : (x : Admission) (zs : List Entry) → IsAdmission x → length zs ≡ n → Says x zs → Sq W (reg zs ∷ ‵ (flft κ₁ q₁) ∷ book ∷ ‵ (flft κ₀ q₀) ∷ ‵ (froom (sliceTy ref) l₁₃ 0) ∷ ‵ (fdies (sliceTy ref) l₁₃) ∷ ‵ (froom ref l₁₂ 0) ∷ ‵ (fdies ref l₁₂) ∷ ‵ (froom tyUnit l₁₁ 0) ∷ ‵ (fdies tyUnit l₁₁) ∷ ‵ (froom tyBool l₁₀ 0) ∷ ‵ (fdies tyBool l₁₀) ∷ ‵ (froom (sliceTy ref) l₉ 0) ∷ ‵ (fdies (sliceTy ref) l₉) ∷ ‵ (froom ref l₈ 0) ∷ ‵ (fdies ref l₈) ∷ ‵ (froom tyBool l₇ 0) ∷ ‵ (fdies tyBool l₇) ∷ ‵ (froom int64 l₆ 0) ∷ ‵ (fdies int64 l₆) ∷ ‵ (froom TA′.mir l₅ 0) ∷ ‵ (fdies TA′.mir l₅) ∷ ‵ (froom TH′.mir l₄ 0) ∷ ‵ (fdies TH′.mir l₄) ∷ ‵ (froom int32 l₃ 0) ∷ ‵ (fdies int32 l₃) ∷ ‵ (fat fullShare (param 1) l₂ 0 s) ∷ ‵ (fdies (param 1) l₂) ∷ ‵ (fat fullShare book-ty l₁ 0 book-val) ∷ ‵ (fdies book-ty l₁) ∷ ‵ (fat fullShare TA′.mir l₀ 0 (mach-admission x)) ∷ ‵ (fdies TA′.mir l₀) ∷ []) (frees E (prop (Post (mach-admission x))))
+    leaves : (x : Admission) (zs : List Entry) → IsAdmission x → length zs ≡ n → Says x zs → Sq W (reg zs ∷ ‵ (flft κ₁ q₁) ∷ book ∷ ‵ (flft κ₀ q₀) ∷ ‵ (froom (sliceTy ref) l₁₃ 0) ∷ ‵ (fdies (sliceTy ref) l₁₃) ∷ ‵ (froom ref l₁₂ 0) ∷ ‵ (fdies ref l₁₂) ∷ ‵ (froom tyUnit l₁₁ 0) ∷ ‵ (fdies tyUnit l₁₁) ∷ ‵ (froom tyBool l₁₀ 0) ∷ ‵ (fdies tyBool l₁₀) ∷ ‵ (froom (sliceTy ref) l₉ 0) ∷ ‵ (fdies (sliceTy ref) l₉) ∷ ‵ (froom ref l₈ 0) ∷ ‵ (fdies ref l₈) ∷ ‵ (froom tyBool l₇ 0) ∷ ‵ (fdies tyBool l₇) ∷ ‵ (froom int64 l₆ 0) ∷ ‵ (fdies int64 l₆) ∷ ‵ (froom TA′.mir l₅ 0) ∷ ‵ (fdies TA′.mir l₅) ∷ ‵ (froom int64 l₄ 0) ∷ ‵ (fdies int64 l₄) ∷ ‵ (froom int32 l₃ 0) ∷ ‵ (fdies int32 l₃) ∷ ‵ (fat fullShare (param 1) l₂ 0 s) ∷ ‵ (fdies (param 1) l₂) ∷ ‵ (fat fullShare book-ty l₁ 0 book-val) ∷ ‵ (fdies book-ty l₁) ∷ ‵ (fat fullShare TA′.mir l₀ 0 (mach-admission x)) ∷ ‵ (fdies TA′.mir l₀) ∷ []) (frees E (prop (Post (mach-admission x))))
     leaves x zs is len e = forget ! 30 refl $ forget ! 28 refl $ forget ! 26 refl $ move ! (30 ∷ 31 ∷ []) $ free1 ! $ move ! (28 ∷ 29 ∷ []) $ free1 ! $ move ! (26 ∷ 27 ∷ []) $ free1 ! $ move ! (24 ∷ 25 ∷ []) $ free1 ! $ move ! (22 ∷ 23 ∷ []) $ free1 ! $ move ! (20 ∷ 21 ∷ []) $ free1 ! $ move ! (18 ∷ 19 ∷ []) $ free1 ! $ move ! (16 ∷ 17 ∷ []) $ free1 ! $ move ! (14 ∷ 15 ∷ []) $ free1 ! $ move ! (12 ∷ 13 ∷ []) $ free1 ! $ move ! (10 ∷ 11 ∷ []) $ free1 ! $ move ! (8 ∷ 9 ∷ []) $ free1 ! $ move ! (6 ∷ 7 ∷ []) $ free1 ! $ move ! (4 ∷ 5 ∷ []) $ free1 ! $ free0 ! $ by ! (exits x zs is len e)
 
     -- the records are looked at
-    looks : Looked ws n → (r : ℕ) → Sq W (reg ys ∷ ‵ (flft κ₁ q₁) ∷ book ∷ ‵ (flft κ₀ q₀) ∷ ‵ (froom (sliceTy ref) l₁₃ 0) ∷ ‵ (fdies (sliceTy ref) l₁₃) ∷ ‵ (froom ref l₁₂ 0) ∷ ‵ (fdies ref l₁₂) ∷ ‵ (froom tyUnit l₁₁ 0) ∷ ‵ (fdies tyUnit l₁₁) ∷ ‵ (froom tyBool l₁₀ 0) ∷ ‵ (fdies tyBool l₁₀) ∷ ‵ (froom (sliceTy ref) l₉ 0) ∷ ‵ (fdies (sliceTy ref) l₉) ∷ ‵ (froom ref l₈ 0) ∷ ‵ (fdies ref l₈) ∷ ‵ (fat fullShare tyBool l₇ 0 (vbool (not (eqb r 0)))) ∷ ‵ (fdies tyBool l₇) ∷ ‵ (fat fullShare int64 l₆ 0 (vint w64 n)) ∷ ‵ (fdies int64 l₆) ∷ ‵ (froom TA′.mir l₅ 0) ∷ ‵ (fdies TA′.mir l₅) ∷ ‵ (froom TH′.mir l₄ 0) ∷ ‵ (fdies TH′.mir l₄) ∷ ‵ (fat fullShare int32 l₃ 0 (vint w32 r)) ∷ ‵ (fdies int32 l₃) ∷ ‵ (fat fullShare (param 1) l₂ 0 s) ∷ ‵ (fdies (param 1) l₂) ∷ ‵ (fat fullShare book-ty l₁ 0 book-val) ∷ ‵ (fdies book-ty l₁) ∷ ‵ (froom TA′.mir l₀ 0) ∷ ‵ (fdies TA′.mir l₀) ∷ []) (runs C Λ E code-mir.t-5 (atRet E Post))
+    looks : Looked ws n → (r : ℕ) → Sq W (reg ys ∷ ‵ (flft κ₁ q₁) ∷ book ∷ ‵ (flft κ₀ q₀) ∷ ‵ (froom (sliceTy ref) l₁₃ 0) ∷ ‵ (fdies (sliceTy ref) l₁₃) ∷ ‵ (froom ref l₁₂ 0) ∷ ‵ (fdies ref l₁₂) ∷ ‵ (froom tyUnit l₁₁ 0) ∷ ‵ (fdies tyUnit l₁₁) ∷ ‵ (froom tyBool l₁₀ 0) ∷ ‵ (fdies tyBool l₁₀) ∷ ‵ (froom (sliceTy ref) l₉ 0) ∷ ‵ (fdies (sliceTy ref) l₉) ∷ ‵ (froom ref l₈ 0) ∷ ‵ (fdies ref l₈) ∷ ‵ (fat fullShare tyBool l₇ 0 (vbool (not (eqb r 0)))) ∷ ‵ (fdies tyBool l₇) ∷ ‵ (fat fullShare int64 l₆ 0 (vint w64 n)) ∷ ‵ (fdies int64 l₆) ∷ ‵ (froom TA′.mir l₅ 0) ∷ ‵ (fdies TA′.mir l₅) ∷ ‵ (froom int64 l₄ 0) ∷ ‵ (fdies int64 l₄) ∷ ‵ (fat fullShare int32 l₃ 0 (vint w32 r)) ∷ ‵ (fdies int32 l₃) ∷ ‵ (fat fullShare (param 1) l₂ 0 s) ∷ ‵ (fdies (param 1) l₂) ∷ ‵ (fat fullShare book-ty l₁ 0 book-val) ∷ ‵ (fdies book-ty l₁) ∷ ‵ (froom TA′.mir l₀ 0) ∷ ‵ (fdies TA′.mir l₀) ∷ []) (runs C Λ E code-mir.t-5 (atRet E Post))
     looks looked r =
-        move ! (2 ∷ 3 ∷ []) $ calls-head-of ! mem run (mid ! fm (callees .head-of)) (named 0) ws (and-then ! (load ! (from ! (stop !)) (look ! 28 refl)) (no-more !)) (λ h-is. move ! (2 ∷ 3 ∷ []) $
-        land ! (from ! (stop !)) (init ! 22 refl (typed-head 𝓤 H A W (headOf ws) h-is)) $
+        move ! (2 ∷ 3 ∷ []) $ calls-protections-of ! mem run (mid ! fm (callees .protections-of)) (named 0) ws (and-then ! (load ! (from ! (stop !)) (look ! 28 refl)) (no-more !)) (λ p-fits. move ! (2 ∷ 3 ∷ []) $
+        land ! (from ! (stop !)) (init ! 22 refl (tt, record { fits = p-fits })) $
         assigns ! (addr ! (from ! (fld ! refl (hop ! (look-in ! 26 (sub ! 0 refl (whole !))) (stop !))))) (from ! (stop !)) (init ! 14 refl (tt, tt)) $ assigns ! (agg ! (and-then ! (load ! (from ! (stop !)) (look ! 14 refl)) (and-then ! (load ! (from ! (fld ! refl (stop !))) (look-in ! 26 (sub ! 1 refl (whole !)))) (no-more !)))) (from ! (stop !)) (init ! 12 refl (tt, (tt, (record { fits = room .0 }, tt)))) $
         let k : ℕ = headOf ws .protections in
-        let p-fits = its-protections (headOf ws) h-is in
-        calls-settle ! mem run (mid ! fm (callees .settle)) (named 1) ys refl room (named 0) ws k p-fits (looked .readable, (looked .count, looked .room)) (λ ν δ. and-then ! (load ! (from ! (stop !)) (look ! 27 refl)) (and-then ! (load ! (from ! (stop !)) (look ! 11 refl)) (and-then ! (load ! (from ! (fld ! refl (stop !))) (look-in ! 21 (sub ! 0 refl (whole !)))) (no-more !)))) (λ d zs d-is z-len d-eq z-eq.
+        calls-settle ! mem run (mid ! fm (callees .settle)) (named 1) ys refl room (named 0) ws k p-fits (looked .readable, (looked .count, looked .room)) (λ ν δ. and-then ! (load ! (from ! (stop !)) (look ! 27 refl)) (and-then ! (load ! (from ! (stop !)) (look ! 11 refl)) (and-then ! (load ! (from ! (stop !)) (look ! 21 refl)) (no-more !)))) (λ d zs d-is z-len d-eq z-eq.
         land ! (from ! (stop !)) (init ! 20 refl (typed-admission 𝓤 H A W d d-is)) $
         calls-is-refused ! mem run (mid ! fm (callees .is-refused)) d d-is (and-then ! (load ! (from ! (stop !)) (look ! 21 refl)) (no-more !)) (λ y y-eq.
         land ! (from ! (stop !)) (init ! 10 refl (tt, tt)) $
         first ! $ branches ! (load ! (from ! (stop !)) (look ! 10 refl))
         (λ h.  -- the register is lent to `clear`
         assigns ! (addr ! (from ! (fld ! refl (hop ! (look-in ! 26 (sub ! 0 refl (whole !))) (stop !))))) (from ! (stop !)) (init ! 6 refl (tt, tt)) $ assigns ! (agg ! (and-then ! (load ! (from ! (stop !)) (look ! 6 refl)) (and-then ! (load ! (from ! (fld ! refl (stop !))) (look-in ! 26 (sub ! 1 refl (whole !)))) (no-more !)))) (from ! (stop !)) (init ! 4 refl (tt, (tt, (record { fits = room .0 }, tt)))) $
-        calls-clear ! mem run (mid ! fm (callees .clear)) (named 1) zs z-len room k p-fits (within zs z-len) (λ ν δ. and-then ! (load ! (from ! (stop !)) (look ! 4 refl)) (and-then ! (load ! (from ! (fld ! refl (stop !))) (look-in ! 22 (sub ! 0 refl (whole !)))) (no-more !))) (λ c-len.
+        calls-clear ! mem run (mid ! fm (callees .clear)) (named 1) zs z-len room k p-fits (within zs z-len) (λ ν δ. and-then ! (load ! (from ! (stop !)) (look ! 4 refl)) (and-then ! (load ! (from ! (stop !)) (look ! 22 refl)) (no-more !))) (λ c-len.
         land ! (from ! (stop !)) (init ! 8 refl (tt, tt)) $
         assigns ! (of-opd ! (load ! (from ! (stop !)) (look ! 20 refl))) (from ! (stop !)) (init ! 30 refl (typed-admission 𝓤 H A W d d-is)) $
         returns-within ! Post refl (look ! 30 refl) $ forget ! 24 refl $ forget ! 22 refl $ forget ! 20 refl $ forget ! 18 refl $ forget ! 16 refl $ forget ! 14 refl $ forget ! 12 refl $ forget ! 10 refl $ forget ! 8 refl $ forget ! 6 refl $ forget ! 4 refl $
@@ -185,7 +183,7 @@ module _ {M : Type 1} (𝓤 : URA M) (H : Heap 𝓤) (A : Atoms 𝓤) (W : Given
         within zs len = omega (arith, looked .room, len)
 
     -- the body, once the parameters are stored
-    begins : Sq W (reg ys ∷ ‵ (flft κ₁ q₁) ∷ book ∷ ‵ (flft κ₀ q₀) ∷ ‵ (froom (sliceTy ref) l₁₃ 0) ∷ ‵ (fdies (sliceTy ref) l₁₃) ∷ ‵ (froom ref l₁₂ 0) ∷ ‵ (fdies ref l₁₂) ∷ ‵ (froom tyUnit l₁₁ 0) ∷ ‵ (fdies tyUnit l₁₁) ∷ ‵ (froom tyBool l₁₀ 0) ∷ ‵ (fdies tyBool l₁₀) ∷ ‵ (froom (sliceTy ref) l₉ 0) ∷ ‵ (fdies (sliceTy ref) l₉) ∷ ‵ (froom ref l₈ 0) ∷ ‵ (fdies ref l₈) ∷ ‵ (froom tyBool l₇ 0) ∷ ‵ (fdies tyBool l₇) ∷ ‵ (froom int64 l₆ 0) ∷ ‵ (fdies int64 l₆) ∷ ‵ (froom TA′.mir l₅ 0) ∷ ‵ (fdies TA′.mir l₅) ∷ ‵ (froom TH′.mir l₄ 0) ∷ ‵ (fdies TH′.mir l₄) ∷ ‵ (froom int32 l₃ 0) ∷ ‵ (fdies int32 l₃) ∷ ‵ (fat fullShare (param 1) l₂ 0 s) ∷ ‵ (fdies (param 1) l₂) ∷ ‵ (fat fullShare book-ty l₁ 0 book-val) ∷ ‵ (fdies book-ty l₁) ∷ ‵ (froom TA′.mir l₀ 0) ∷ ‵ (fdies TA′.mir l₀) ∷ []) (runs C Λ E code-mir.t-1 (atRet E Post))
+    begins : Sq W (reg ys ∷ ‵ (flft κ₁ q₁) ∷ book ∷ ‵ (flft κ₀ q₀) ∷ ‵ (froom (sliceTy ref) l₁₃ 0) ∷ ‵ (fdies (sliceTy ref) l₁₃) ∷ ‵ (froom ref l₁₂ 0) ∷ ‵ (fdies ref l₁₂) ∷ ‵ (froom tyUnit l₁₁ 0) ∷ ‵ (fdies tyUnit l₁₁) ∷ ‵ (froom tyBool l₁₀ 0) ∷ ‵ (fdies tyBool l₁₀) ∷ ‵ (froom (sliceTy ref) l₉ 0) ∷ ‵ (fdies (sliceTy ref) l₉) ∷ ‵ (froom ref l₈ 0) ∷ ‵ (fdies ref l₈) ∷ ‵ (froom tyBool l₇ 0) ∷ ‵ (fdies tyBool l₇) ∷ ‵ (froom int64 l₆ 0) ∷ ‵ (fdies int64 l₆) ∷ ‵ (froom TA′.mir l₅ 0) ∷ ‵ (fdies TA′.mir l₅) ∷ ‵ (froom int64 l₄ 0) ∷ ‵ (fdies int64 l₄) ∷ ‵ (froom int32 l₃ 0) ∷ ‵ (fdies int32 l₃) ∷ ‵ (fat fullShare (param 1) l₂ 0 s) ∷ ‵ (fdies (param 1) l₂) ∷ ‵ (fat fullShare book-ty l₁ 0 book-val) ∷ ‵ (fdies book-ty l₁) ∷ ‵ (froom TA′.mir l₀ 0) ∷ ‵ (fdies TA′.mir l₀) ∷ []) (runs C Λ E code-mir.t-1 (atRet E Post))
     begins =
         assigns ! (of-opd ! (load ! (from ! (fld ! refl (stop !))) (look-in ! 26 (sub ! 1 refl (whole !))))) (from ! (stop !)) (init ! 18 refl (tt, record { fits = room .0 })) $
         move ! (2 ∷ 3 ∷ []) $ calls-early ! mem run (mid ! fm (callees .early)) (named 0) ws n (room .0) (and-then ! (load ! (from ! (stop !)) (look ! 28 refl)) (and-then ! (load ! (from ! (stop !)) (look ! 18 refl)) (no-more !))) (λ r r-fits r-eq. move ! (2 ∷ 3 ∷ []) $
@@ -228,7 +226,7 @@ admit-spec 𝓤 H 𝓜 𝓖 𝓡 =
     (tables 𝓤 H 𝓜 𝓡 code.env .C) (tables 𝓤 H 𝓜 𝓡 code.env .Λ) #admit code.function (code.unfolded 𝓤 H 𝓜 𝓡)
     (meets 𝓤 H (𝓖 .A) (givenOf 𝓤 H 𝓜 𝓖) (𝓜 .mem) (𝓡 .run) (tablesOf 𝓤 H 𝓜 (tables 𝓤 H 𝓜 𝓡 code.env)) (record {
       early = cited 𝓤 H (EarlyOne 𝓤 H (𝓖 .A) (𝓜 .mem) (𝓡 .run)) 𝓜 𝓡 code.env #early early-def.routine code.calls-filing·early·early (early-thm.met 𝓤 H 𝓜 𝓖 𝓡);
-      head-of = cited 𝓤 H (HeadOf 𝓤 H (𝓖 .A) (𝓜 .mem) (𝓡 .run)) 𝓜 𝓡 code.env #head-of head-of-def.routine code.calls-reading·head·head-of (head-of-thm.met 𝓤 H 𝓜 𝓖 𝓡);
+      protections-of = cited 𝓤 H (ProtectionsOf 𝓤 H (𝓖 .A) (𝓜 .mem) (𝓡 .run)) 𝓜 𝓡 code.env #protections-of protections-of-def.routine code.calls-reading·head·protections-of (protections-of-thm.met 𝓤 H 𝓜 𝓖 𝓡);
       settle = cited 𝓤 H (Settle 𝓤 H (𝓖 .A) (𝓜 .mem) (𝓡 .run)) 𝓜 𝓡 code.env #settle settle-def.routine code.calls-register·settle (settle-thm.met 𝓤 H 𝓜 𝓖 𝓡);
       is-refused = cited 𝓤 H (IsRefused 𝓤 H (𝓖 .A) (𝓜 .mem) (𝓡 .run)) 𝓜 𝓡 code.env #is-refused is-refused-def.routine code.calls-filing·stages·is-refused (is-refused-thm.met 𝓤 H 𝓜 𝓖 𝓡);
       clear = cited 𝓤 H (Clear 𝓤 H (𝓖 .A) (𝓜 .mem) (𝓡 .run)) 𝓜 𝓡 code.env #clear clear-def.routine code.calls-register·clear (clear-thm.met 𝓤 H 𝓜 𝓖 𝓡);

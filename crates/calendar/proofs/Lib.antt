@@ -1,0 +1,6 @@
+pub mod Below
+pub mod Periods
+pub mod Months
+pub mod Years
+pub mod Ends
+pub mod Dates
