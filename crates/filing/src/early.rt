@@ -15,13 +15,16 @@ pub fn early(book: &[u32], entries: usize) -> u32
     if book.len() > limits::BOOK_WORDS {
         return causes::BOOK_LONG;
     }
-    if head_faulty(book) {
+    let head = head_faulty(book);
+    let date = date_faulty(book);
+    let protections = protections_of(book);
+    if head {
         return causes::HEAD_FAULTY;
     }
-    if date_faulty(book) {
+    if date {
         return causes::DATE_FAULTY;
     }
-    if entries < protections_of(book) {
+    if entries < protections {
         return causes::REGISTER_SHORT;
     }
     causes::NONE

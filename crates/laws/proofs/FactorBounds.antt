@@ -46,7 +46,7 @@ row-at-most [] k = omega arith
 row-at-most (r ∷ rows) zero = omega arith
 row-at-most (r ∷ rows) (suc k) = omega (arith, row-at-most rows k)
 
-factor-at-most : (class band : ℕ) → factorAt class band ≤ 150
+pub factor-at-most : (class band : ℕ) → factorAt class band ≤ 150
 factor-at-most class band = le-trans (place-at-most (getD factors class []) band) (row-at-most factors class)
 
 pub credit-at-most : (qualifying : Bool) → creditFactor qualifying ≤ 100

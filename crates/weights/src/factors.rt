@@ -2,11 +2,10 @@
 use rules::Bands;
 use rules::payloads;
 use words::numbers::from_byte;
-ghost use mathlib.Core.Bool.{cond, _&&_};
+ghost use mathlib.Core.Bool.{cond};
 ghost use mathlib.Core.Path.{_≡_};
-ghost use Prim.Native.Nat.{max};
-ghost use lib.Dec.{eqb, ltb};
 ghost use Rattle.rules.specs.Factors.{bandOf, creditFactor, factorAt, marketFactor, tradeFactor};
+ghost use Rattle.weights.specs.Floor.{floorOf};
 
 // A row for each class: rates, currency and gold, equity, other precious metals, other commodities; a column for each band.
 const FACTORS: [[u8; 3]; 5] = [
@@ -17,7 +16,7 @@ const FACTORS: [[u8; 3]; 5] = [
     [100, 120, 150],
 ];
 
-// "for 365 days or less, up to 1,825, beyond"
+// "for 365 days or less, up to 1,825, beyond", by the counted days of the bands
 pub fn band(bands: Bands, days: u32) -> usize
     ensures { λ r. ⌜ r ≡ bandOf bands days ⌝ }
 {
@@ -58,10 +57,11 @@ fn deciding_days(resets: bool, days: u32, reset_days: u32) -> u32
     if resets { reset_days } else { days }
 }
 
-// "a rates trade with more than 365 days remaining then has at least 5": the remaining days decide whether the 5 applies, not the
-// reset days.
-fn least_factor(bands: Bands, class: u32, resets: bool, days: u32) -> u32
-    ensures { λ r. ⌜ r ≡ cond (resets && (eqb class 0 && ltb (bands .short) days)) 5 0 ⌝ }
+// "a rates trade with more than 365 days remaining then has at least 5": what is added to its figure where this is 0, in the first band; in the
+// others rates have 5 and more. The remaining days decide whether they pass the one-year end; only a reset can have chosen the first
+// band then.
+fn reset_floor(bands: Bands, class: u32, days: u32, deciding: u32) -> u32
+    ensures { λ r. ⌜ r ≡ floorOf bands class days deciding ⌝ }
 {
     if class > 0 {
         return 0;
@@ -69,21 +69,18 @@ fn least_factor(bands: Bands, class: u32, resets: bool, days: u32) -> u32
     if bands.short >= days {
         return 0;
     }
-    if resets { 5 } else { 0 }
+    if deciding > bands.short {
+        return 0;
+    }
+    5
 }
 
 pub fn market_factor(bands: Bands, class: u32, resets: bool, days: u32, reset_days: u32) -> u32
     ensures { λ r. ⌜ r ≡ marketFactor bands class resets days «reset_days» ⌝ }
 {
-    let least = least_factor(bands, class, resets, days);
-    let figure = factor_at(class, band(bands, deciding_days(resets, days, reset_days)));
-    larger(least, figure)
-}
-
-fn larger(a: u32, b: u32) -> u32
-    ensures { λ r. ⌜ r ≡ max a b ⌝ }
-{
-    if a < b { b } else { a }
+    let deciding = deciding_days(resets, days, reset_days);
+    let floor = reset_floor(bands, class, days, deciding);
+    floor + factor_at(class, band(bands, deciding))
 }
 
 // The factor of a trade of any class; class 5 is bought credit.

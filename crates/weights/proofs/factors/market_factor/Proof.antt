@@ -1,26 +1,30 @@
--- `market_factor` gives the larger of two figures, as the law says. Assumes nothing.
-use mathlib.Core.Path.{ap, sym, _∙_}
-use Prim.Native.Nat.{max}
+-- `market_factor` adds the floor to the figure of the band, as the law says. Assumes nothing.
+use native.Mathlib.Omega.{arith}
 use borrow.Author.Needs.{needs}
-use Rattle.rules.specs.Factors.{bandOf, factorAt}
-use Rattle.weights.proofs.Cases.{market-larger}
+use Rattle.laws.proofs.FactorBounds.{factor-at-most}
+use Rattle.weights.proofs.Cases.{floor-small, market-sum}
 use Rattle.weights.proofs.factors.market_factor.Statement.{statement}
 use Rattle.weights.proofs.factors.market_factor.Tie as tie
 
+add-result : tie.Need-add-result
+add-result c =
+    let b = c .before in
+    let f = b .before in
+    let a = f .before .before .args in
+    omega (arith, f .reset-floor .ensures, floor-small (a .bands) (a .class) (a .days) (f .before .deciding-days .result), c .factor-at .ensures, factor-at-most (a .class) (b .band .result))
+
 returns : tie.Need-returns
 returns c =
-    let f = c .before in
-    let b = f .before in
-    let d = b .before in
-    let a = d .before .before .args in
-    c .larger .ensures
-    ∙ ap (λ l. max l (f .factor-at .result)) (d .before .least-factor .ensures)
-    ∙ ap (max _) (f .factor-at .ensures ∙ ap (factorAt (a .class)) (b .band .ensures ∙ ap (bandOf (a .bands)) (d .deciding-days .ensures)))
-    ∙ sym (market-larger (a .bands) (a .class) (a .days) (a .reset-days) (a .resets))
+    let b = c .before in
+    let f = b .before in
+    let a = f .before .before .args in
+    rw (f .reset-floor .ensures, c .factor-at .ensures, b .band .ensures, f .before .deciding-days .ensures)
+    (market-sum (a .bands) (a .class) (a .days) (a .reset-days) (a .resets))
 
 pub market-factor-spec : {M : Type 1} → statement M
 market-factor-spec =
     tie.close
     (tie.spec
-    (search needs) (search needs) (search needs) (search needs) (search needs)
+    (search needs) (search needs) (search needs) (search needs)
+    add-result
     returns)
