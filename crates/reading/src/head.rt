@@ -16,7 +16,7 @@ ghost use denote.Ref.{now};
 ghost use Rattle.rules.specs.Calendar.{lastDate};
 ghost use Rattle.rules.specs.Read.{headFaulty, dateFaulty, reportingDate, headOf};
 
-// "under three words, no good head word or Tier 1 word"
+// "A book under three words", "no good head word or Tier 1 word".
 pub fn head_faulty(book: &[u32]) -> bool
     ensures { λ r. ⌜ r ≡ headFaulty (now (book .entry)) ⌝ }
 {

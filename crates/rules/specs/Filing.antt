@@ -29,7 +29,7 @@ judged r (settled entries) = cond (eqb (r .number) 0) (accepted (r .records) ent
 unfoldable pub recordsOutcome : List ℕ → Outcome
 recordsOutcome ws = judged (itemsOf ws) (settle (map entryOf (protectionsOf ws .records)) (drawsOver (itemsOf ws .records)))
 
--- a book with a register of so many entries: 2 and 3, "16 ... after 3 and before 4" (request A.2), then the records
+-- a book with a register of so many entries: 2, 3, then 16, "after 3 and before 4" (request A.2), 4, then the records
 unfoldable pub admission : List ℕ → ℕ → Outcome
 admission ws entries =
     cond (ltb (2 ^ 20) (length ws)) (early 2)

@@ -17,7 +17,7 @@ use Rattle.rules.specs.Faults.{cause, protectionFault, assetFault, deriv
 abbrev pub firstRecord : ℕ
 firstRecord = 3
 
--- "under three words, no good head word or Tier 1 word"; b is 0 to 4,096
+-- "A book under three words", "no good head word or Tier 1 word"; b is 0 to 4,096
 unfoldable pub headFaulty : List ℕ → Bool
 headFaulty ws =
     ltb (length ws) firstRecord

@@ -42,14 +42,6 @@ module _ (bands : Bands) (class days deciding : ℕ) where
   unfolding floorOf
   floor-five z h l = simp (eq-eqb class 0 z, lt-ltb (bands .short) days h, le-leb deciding (bands .short) l)
 
-  pub floor-small : floorOf bands class days deciding ≤ 5
-  unfolding floorOf
-  floor-small = go (eqb class 0 && (ltb (bands .short) days && leb deciding (bands .short)))
-    where
-      go : (b : Bool) → cond b 5 0 ≤ 5
-      go true = omega arith
-      go false = omega arith
-
 -- ---- the factor of a market trade
 
 -- with a reset: of rates, where the remaining days pass the one-year end, at least 5

@@ -4,6 +4,7 @@ use rules::payloads;
 use words::numbers::from_byte;
 ghost use mathlib.Core.Bool.{cond};
 ghost use mathlib.Core.Path.{_≡_};
+ghost use Prim.Native.Nat.{_≤_};
 ghost use Rattle.rules.specs.Factors.{bandOf, creditFactor, factorAt, marketFactor, tradeFactor};
 ghost use Rattle.weights.specs.Floor.{floorOf};
 
@@ -57,11 +58,11 @@ fn deciding_days(resets: bool, days: u32, reset_days: u32) -> u32
     if resets { reset_days } else { days }
 }
 
-// "a rates trade with more than 365 days remaining then has at least 5": what is added to its figure where this is 0, in the first band; in the
-// others rates have 5 and more. The remaining days decide whether they pass the one-year end; only a reset can have chosen the first
-// band then.
+// "a rates trade with more than 365 days remaining then has at least 5", and "The reset floor uses the same one-year end": what is added to the
+// figure of the first band, which is 0 for rates; in the other bands they have 5 and more. The remaining days decide whether it applies, not
+// those that chose the band; where they pass the end, only a reset can have chosen the first.
 fn reset_floor(bands: Bands, class: u32, days: u32, deciding: u32) -> u32
-    ensures { λ r. ⌜ r ≡ floorOf bands class days deciding ⌝ }
+    ensures { λ r. ⌜ (r ≡ floorOf bands class days deciding) × (r ≤ 5) ⌝ }
 {
     if class > 0 {
         return 0;

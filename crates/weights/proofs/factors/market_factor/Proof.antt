@@ -2,23 +2,19 @@
 use native.Mathlib.Omega.{arith}
 use borrow.Author.Needs.{needs}
 use Rattle.laws.proofs.FactorBounds.{factor-at-most}
-use Rattle.weights.proofs.Cases.{floor-small, market-sum}
+use Rattle.weights.proofs.Cases.{market-sum}
 use Rattle.weights.proofs.factors.market_factor.Statement.{statement}
 use Rattle.weights.proofs.factors.market_factor.Tie as tie
 
 add-result : tie.Need-add-result
-add-result c =
-    let b = c .before in
-    let f = b .before in
-    let a = f .before .before .args in
-    omega (arith, f .reset-floor .ensures, floor-small (a .bands) (a .class) (a .days) (f .before .deciding-days .result), c .factor-at .ensures, factor-at-most (a .class) (b .band .result))
+add-result c = omega (arith, c .factor-at .ensures, factor-at-most (c .before .before .before .before .args .class) (c .before .band .result))
 
 returns : tie.Need-returns
 returns c =
     let b = c .before in
     let f = b .before in
     let a = f .before .before .args in
-    rw (f .reset-floor .ensures, c .factor-at .ensures, b .band .ensures, f .before .deciding-days .ensures)
+    rw (f .reset-floor .ensures .0, c .factor-at .ensures, b .band .ensures, f .before .deciding-days .ensures)
     (market-sum (a .bands) (a .class) (a .days) (a .reset-days) (a .resets))
 
 pub market-factor-spec : {M : Type 1} → statement M
