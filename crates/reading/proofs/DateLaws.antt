@@ -1,13 +1,13 @@
 -- A reporting date by its word as one number: a date that is not faulty is below every word of another kind and every negative amount.
 -- Assumes nothing.
-use Prim.Native.Nat.{ℕ, _<_, _≤_}
+use Prim.Native.Nat.{ℕ, _≤_}
 use mathlib.Core.Path.{_≡_, refl}
 use mathlib.Core.Bool.{Bool, true, false}
 use mathlib.Core.List.{List}
 use native.Mathlib.Omega.{arith}
 use borrow.Author.Tests.{eqb-true, eqb-false, lt-ltb, ltb-false}
 use lib.Dec.{eqb, ltb}
-use Rattle.rules.specs.Word.{word, kindOf, payloadOf, sizeOf}
+use Rattle.rules.specs.Word.{word, kindOf, payloadOf}
 use Rattle.rules.specs.Calendar.{lastDate}
 use Rattle.rules.specs.Read.{dateFaulty, reportingDate}
 

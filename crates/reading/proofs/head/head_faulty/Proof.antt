@@ -1,5 +1,7 @@
+use native.Mathlib.Omega.{arith}
 use borrow.Author.Tests.{lt-ltb, le-ltb, eq-eqb, ne-eqb}
-use Rattle.rules.specs.Read.{headFaulty}
+use lib.ListN.{length}
+use Rattle.rules.specs.Read.{firstRecord, headFaulty}
 use Rattle.rules.proofs.Lists.{or-true}
 use borrow.Author.Needs.{needs}
 use Rattle.reading.proofs.head.head_faulty.Statement.{statement}
@@ -7,7 +9,7 @@ use Rattle.reading.proofs.head.head_faulty.Tie as tie
 
 returns : tie.Need-returns
 unfolding headFaulty
-returns c = simp (lt-ltb _ _ (c .if1 .taken))
+returns c = simp (lt-ltb (length (c .before .before .args .book .now)) firstRecord (omega arith))
 
 returns-2 : tie.Need-returns-2
 unfolding headFaulty
@@ -28,8 +30,8 @@ returns-5 c =
     let payload = c .before .before .before .before .before .payload in
     let if2 = c .before .before .before .before .before .before .if2 in
     let kind = c .before .before .before .before .before .before .before .kind in
-    let if1 = c .before .before .before .before .before .before .before .before .before .if1 in
-    simp (le-ltb _ _ (if1 .left), ← (kind .ensures), eq-eqb _ _ (if2 .left), ← (payload .ensures), le-ltb 4096 _ (if3 .left), ← (c .before .before .kind2 .ensures), eq-eqb _ _ (c .before .if4 .left), ← (c .minus-zero .ensures))
+    let e = c .before .before .before .before .before .before .before .before .before .before .before in
+    simp (le-ltb (length (e .args .book .now)) firstRecord (omega arith), ← (kind .ensures), eq-eqb _ _ (if2 .left), ← (payload .ensures), le-ltb 4096 _ (if3 .left), ← (c .before .before .kind2 .ensures), eq-eqb _ _ (c .before .if4 .left), ← (c .minus-zero .ensures))
 
 pub head-faulty-spec : {M : Type 1} → statement M
 head-faulty-spec =
