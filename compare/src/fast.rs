@@ -2,6 +2,7 @@
 //! It shares only the types of the boundary with the model.
 
 mod bands;
+mod baskets;
 mod derivatives;
 mod financing;
 mod sums;

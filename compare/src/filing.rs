@@ -83,7 +83,7 @@ pub type Filing = fn(&[u32], &mut [i64], &mut [Entry]) -> Answer;
 
 /// The numbers that a filing answers, in the order in which they are judged.
 /// 15 is of no filing.
-pub const NUMBERS: [u32; 16] = [0, 1, 2, 3, 16, 4, 5, 6, 7, 8, 9, 10, 11, 12, 13, 14];
+pub const NUMBERS: [u32; 17] = [0, 1, 2, 3, 16, 4, 5, 6, 7, 8, 9, 10, 11, 12, 13, 17, 14];
 
 /// How often each answer came: by number, and by verdict where accepted.
 #[derive(Default)]

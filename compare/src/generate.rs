@@ -32,15 +32,29 @@ pub fn word(kind: u32, payload: u32) -> u32 {
     kind << 28 | payload
 }
 
-/// A record's amounts by its kind.
-pub fn amounts(kind: u32) -> usize {
-    match kind {
+/// The most names that a basket may have, and the most that its word can count.
+pub const MOST_NAMES: u32 = 32;
+pub const MOST_COUNTED: u32 = 63;
+/// The worst grade that qualifies, and the worst that there is.
+pub const LAST_QUALIFYING_GRADE: u32 = 9;
+pub const LAST_GRADE: u32 = 31;
+
+/// The count of names that a basket's word has, whether it may or not.
+pub fn names(word: u32) -> u32 {
+    word >> 6 & MOST_COUNTED
+}
+
+/// A record's amounts by its word: by the kind, and for a basket by its count
+/// of names.
+pub fn amounts(word: u32) -> usize {
+    match word >> 28 {
         7 | 10 => 1,
         1 => 2,
         2..=4 => 3,
         5 => 4,
         6 => 5,
         9 => 7,
+        11 => 2 + names(word) as usize,
         _ => 0,
     }
 }

@@ -4,6 +4,7 @@
 //! each in the order of the table of causes, and adds it to the template.
 
 mod audit;
+mod basket;
 pub mod calendar;
 mod factors;
 mod head;

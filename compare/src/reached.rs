@@ -1,14 +1,17 @@
-//! What accepted books make use of, and how heads are refused. Each thing on the
-//! list is counted, and one that never came is a fault of the generator.
+//! What accepted books make use of, and how heads and baskets are refused. Each
+//! thing on the list is counted, and one that never came is a fault of the
+//! generator.
 
 mod bands;
+mod baskets;
 mod covers;
 mod heads;
+mod refused_baskets;
 
 use std::collections::BTreeMap;
 
 use crate::filing::Lengths;
-use crate::generate::{amounts, AMOUNT_LIMIT};
+use crate::generate::{amounts, word, AMOUNT_LIMIT, LAST_GRADE, MOST_NAMES};
 use crate::model::{Answer, LAST_DATE};
 use bands::Bands;
 
@@ -32,11 +35,12 @@ pub struct Reached(BTreeMap<Feature, u64>);
 
 impl Default for Reached {
     fn default() -> Self {
-        Reached::listing(uses().into_iter().chain(heads::list()))
+        let refused = heads::list().into_iter().chain(refused_baskets::list());
+        Reached::listing(uses().into_iter().chain(refused))
     }
 }
 
-/// A record of an accepted book.
+/// A record that was found good.
 #[derive(Clone, Copy)]
 struct Record<'a> {
     kind: u32,
@@ -54,7 +58,7 @@ fn records(book: &[u32]) -> Vec<Record<'_>> {
     let mut records = Vec::new();
     let mut rest = book;
     while let [head, behind @ ..] = rest {
-        let (amounts, next) = behind.split_at(amounts(head >> 28));
+        let (amounts, next) = behind.split_at(amounts(*head));
         records.push(Record {
             kind: head >> 28,
             payload: head & 0x0FFF_FFFF,
@@ -76,11 +80,13 @@ impl Reached {
         Reached::listing(uses().into_iter())
     }
 
-    /// Counts what a filed book uses, or how its head is refused.
+    /// Counts what a filed book uses, or how its head or a basket is refused.
     pub fn add(&mut self, book: &[u32], answer: &Answer, lengths: Lengths) {
-        match answer.number {
-            0 => self.accepted(book),
-            _ => self.head(book, answer, lengths),
+        if answer.number == 0 {
+            self.accepted(book);
+        } else {
+            self.head(book, answer, lengths);
+            self.refused_basket(book, answer);
         }
     }
 
@@ -99,6 +105,7 @@ impl Reached {
             self.neighbours(&pair[0], &pair[1]);
         }
         self.covers(&records);
+        self.baskets(&records);
     }
 
     /// That everything on the list came.
@@ -119,7 +126,7 @@ impl Reached {
     pub fn print(&self) {
         let least = self.0.values().min().copied().unwrap_or_default();
         let features = self.0.len();
-        println!("records, marks, classes, dates, bands, covers, amounts, refused heads: {features} on the list, each {least} times or more");
+        println!("records, marks, classes, dates, bands, covers, baskets, amounts, refused heads and baskets: {features} on the list, each {least} times or more");
     }
 
     fn came(&mut self, name: &'static str, numbers: [u32; 3]) {
@@ -178,7 +185,7 @@ impl Reached {
 
 fn uses() -> Vec<Feature> {
     let mut list = Vec::new();
-    for kind in (1..=10).chain([15]) {
+    for kind in (1..=11).chain([15]) {
         list.push(("kind", [kind, 0, 0]));
     }
     for (kind, bits) in MARKS {
@@ -201,6 +208,7 @@ fn uses() -> Vec<Feature> {
         list.push(("same day, marks of two financing trades", numbers));
     }
     list.extend(covers::list());
+    list.extend(baskets::list());
     list
 }
 
@@ -212,12 +220,14 @@ fn three_bits() -> impl Iterator<Item = [u32; 3]> {
 /// The smallest and the largest that each amount of each kind can be.
 fn extremes() -> Vec<Feature> {
     let mut list = Vec::new();
-    for kind in 1..=10 {
-        for place in 1..=amounts(kind) as u32 {
-            let signed = matches!((kind, place), (1 | 5 | 6, 1));
+    for kind in 1..=11 {
+        let longest = if kind == 11 { MOST_NAMES << 6 } else { 0 };
+        for place in 1..=amounts(word(kind, longest)) as u32 {
+            let signed = matches!((kind, place), (1 | 5 | 6 | 11, 1));
             let least = u32::from(kind == 7);
             let most = match (kind, place) {
                 (1, 2) => LAST_DATE,
+                (11, 3..) => LAST_GRADE,
                 (3, 3) | (5, 3) | (5, 4) | (6, 4) | (9, 7) => MOST_DAYS,
                 _ => LARGEST,
             };

@@ -5,7 +5,9 @@ use std::fs;
 use std::path::Path;
 
 use crate::filing::Counts;
-use crate::generate::{self, word, Random, AMOUNT_LIMIT};
+use crate::generate::{
+    self, word, Random, AMOUNT_LIMIT, LAST_GRADE, LAST_QUALIFYING_GRADE, MOST_COUNTED, MOST_NAMES,
+};
 use crate::model::{self, Answer, Entry, FIRST_RECORD, LAST_DATE, LONGEST_BOOK, ROWS};
 use crate::text;
 
@@ -77,6 +79,7 @@ pub fn write(books: u64, seed: u64, folder: &Path) -> Result<(), String> {
     let mut samples = from_the_paper()?;
     samples.extend(at_the_edges());
     samples.extend(by_head());
+    samples.extend(by_basket());
     samples.extend(generated(books, seed));
 
     let mut rows = [DIRT; LENT];
@@ -113,7 +116,7 @@ fn save(file: &Path, bytes: &[u8]) -> Result<(), String> {
 }
 
 /// The paper's samples, where the model answers what the paper says, the book
-/// that has every kind of record, and the one over a leap year.
+/// that has every kind of record, the one over a leap year and that of baskets.
 fn from_the_paper() -> Result<Vec<Sample>, String> {
     let mut samples = Vec::new();
     for (source, expected) in PAPER {
@@ -132,6 +135,7 @@ fn from_the_paper() -> Result<Vec<Sample>, String> {
     for source in [
         include_str!("../books/sample.txt"),
         include_str!("../books/leap_year.txt"),
+        include_str!("../books/baskets.txt"),
     ] {
         samples.push(Sample::whole(text::words(source)?));
     }
@@ -185,6 +189,33 @@ fn by_head() -> Vec<Sample> {
         }
     }
     samples
+}
+
+/// Baskets whose n and m are at the ends of what they may be or beyond, with as
+/// many grades as that or one less.
+fn by_basket() -> Vec<Sample> {
+    let counts = [0, 1, 2, MOST_NAMES, MOST_NAMES + 1, MOST_COUNTED];
+    let (good, faulty, minus_zero) = (LAST_QUALIFYING_GRADE, LAST_GRADE + 1, AMOUNT_LIMIT);
+    let mut samples = Vec::new();
+    for (names, nth) in counts.iter().flat_map(|m| counts.map(|n| (*m, n))) {
+        for last in [good, good + 1, faulty, minus_zero] {
+            samples.push(Sample::whole(one_basket(nth, names, names, last)));
+        }
+        if names > 0 {
+            samples.push(Sample::whole(one_basket(nth, names, names - 1, good)));
+        }
+    }
+    samples
+}
+
+/// A basket with so many grades, all but the last of which do not qualify.
+fn one_basket(nth: u32, names: u32, grades: u32, last: u32) -> Vec<u32> {
+    let mut book = vec![word(1, 0), 7, SAMPLE_DATE, word(4, 1), 0, 0, 0];
+    book.extend([word(11, nth | names << 6), 5, 1_000]);
+    book.extend((1..grades).map(|_| LAST_QUALIFYING_GRADE + 1));
+    book.extend((grades > 0).then_some(last));
+    book.push(word(15, book.len() as u32));
+    book
 }
 
 /// As many protections as there are entries; the last one covers a credit.

@@ -1,8 +1,9 @@
 //! A readable form of a book: one record per line, a keyword, then marks by
-//! their name and fields as name=value. `#` begins a comment. Amounts left out
-//! are 0. The first two lines are the head's amounts: `tier1` and its amount,
-//! `date` and the reporting date as 2096-03-01. The head's count of protections
-//! and the end word are written here.
+//! their name and fields as name=value, the grades of a basket as a list. `#`
+//! begins a comment. Amounts left out are 0. The first two lines are the head's
+//! amounts: `tier1` and its amount, `date` and the reporting date as 2096-03-01.
+//! The head's count of protections, a basket's count of names and the end word
+//! are written here.
 //!
 //! The order of the lines is that of the book, right or wrong, so that faulty
 //! books can be written as well.
@@ -92,6 +93,7 @@ fn record(keyword: &str, parts: &[&str]) -> Result<Vec<u32>, String> {
     let mut payload = 0;
     let mut fields: Vec<Option<u32>> = vec![None; form.fields.len()];
     let mut amounts: Vec<Option<u32>> = vec![None; form.amounts.len()];
+    let mut listed = None;
     for part in parts {
         let Some((name, value)) = part.split_once('=') else {
             payload |= mark(form, part)?;
@@ -101,6 +103,8 @@ fn record(keyword: &str, parts: &[&str]) -> Result<Vec<u32>, String> {
             set(&mut fields[index], form.fields[index].read(value)?, name)?;
         } else if let Some(index) = form.amounts.iter().position(|&known| known == name) {
             set(&mut amounts[index], amount(value)?, name)?;
+        } else if let Some(list) = form.list.as_ref().filter(|list| list.name == name) {
+            set(&mut listed, list.read(value)?, name)?;
         } else {
             return Err(format!("{keyword} has no field {name}"));
         }
@@ -111,8 +115,13 @@ fn record(keyword: &str, parts: &[&str]) -> Result<Vec<u32>, String> {
     if keyword == "trade" {
         amounts[3] = amounts[3].or(amounts[2]);
     }
+    let listed = listed.unwrap_or_default();
+    if let Some(list) = &form.list {
+        payload |= (listed.len() as u32) << list.low;
+    }
     let mut words = vec![form.kind << 28 | payload];
     words.extend(amounts.iter().map(|amount| amount.unwrap_or(0)));
+    words.extend(listed);
     Ok(words)
 }
 
@@ -122,7 +131,7 @@ fn mark(form: &Form, name: &str) -> Result<u32, String> {
     known.map(|(_, bits)| *bits).ok_or_else(no_mark)
 }
 
-fn set(place: &mut Option<u32>, value: u32, name: &str) -> Result<(), String> {
+fn set<T>(place: &mut Option<T>, value: T, name: &str) -> Result<(), String> {
     match place.replace(value) {
         None => Ok(()),
         Some(_) => Err(format!("{name} is given twice")),

@@ -6,7 +6,7 @@ use std::time::Instant;
 
 use super::{Timing, REPETITIONS};
 use crate::filing::Filing;
-use crate::generate::{correct_count, word, Random};
+use crate::generate::{correct_count, word, Random, LAST_QUALIFYING_GRADE, MOST_NAMES};
 use crate::model::{Entry, ROWS};
 use crate::samples::SAMPLE_DATE;
 use crate::{fast, library, model};
@@ -20,12 +20,13 @@ const WORDS_PER_MEASUREMENT: usize = 1 << 20;
 type Item = fn(&mut Vec<u32>, &mut Random);
 
 /// The books, their items, and the words for each protection if there is any.
-const BOOKS: [(&str, Item, Option<usize>); 7] = [
+const BOOKS: [(&str, Item, Option<usize>); 8] = [
     ("assets", asset, None),
     ("netted derivatives", netted_set, None),
     ("netted, N = G", gains_alone, None),
     ("netted, N = 0", losses_outweigh, None),
     ("covered credit", covered_set, Some(64)),
+    ("baskets", basket_set, None),
     ("financing", financing_set, None),
     ("off-balance", off_balance, None),
 ];
@@ -189,6 +190,20 @@ fn covered_set(words: &mut Vec<u32>, random: &mut Random) {
             let amount = random.between(1, 1 << 10);
             words.extend([word(7, random.below(protections)), amount]);
         }
+    }
+}
+
+/// A netted set of four baskets. Half of the grades qualify, so that both factors
+/// come.
+fn basket_set(words: &mut Vec<u32>, random: &mut Random) {
+    words.extend([word(4, 1), 0, 0, 0]);
+    for _ in 0..4 {
+        let names = random.between(1, MOST_NAMES);
+        let nth = random.between(1, names);
+        words.push(word(11, nth | names << 6));
+        words.extend([value(random), random.below(1 << 24)]);
+        let grade = |_| LAST_QUALIFYING_GRADE - 4 + random.below(10);
+        words.extend((0..names).map(grade));
     }
 }
 

@@ -1,6 +1,7 @@
-//! Derivative sets with their written credits and covers.
+//! Derivative sets with their trades, written credits and covers.
 
 use super::bands::Bands;
+use super::baskets::{basket, names};
 use super::sums::Sums;
 use super::{amounts, check, of_kind, signed, Fault, Outcome, SIGN};
 use crate::model::Entry;
@@ -56,6 +57,12 @@ pub fn derivative_set(
                 place += 5;
             }
             6 => place = written_credit(book, place, word, register, &mut tally, sums)?,
+            11 => {
+                let (value, add_on) = basket(book, place, word)?;
+                tally.value(value);
+                tally.add_on += add_on;
+                place += 3 + names(word);
+            }
             _ => break,
         }
     }

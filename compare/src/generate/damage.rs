@@ -1,6 +1,7 @@
 //! Valid books with something wrong: blind damage to words, and damage aimed
 //! at one cause of refusal so that each occurs often enough.
 
+mod basket;
 mod head;
 mod record;
 
@@ -9,21 +10,23 @@ use super::{amounts, correct_count, word, Book, Random, AMOUNT_LIMIT};
 /// The sign of an amount; alone it is minus zero.
 const SIGN: u32 = AMOUNT_LIMIT;
 
-const MEMBERS_AND_ITEMS: [u32; 9] = [2, 3, 4, 5, 6, 7, 8, 9, 10];
+const MEMBERS_AND_ITEMS: [u32; 10] = [2, 3, 4, 5, 6, 7, 8, 9, 10, 11];
 
 pub fn damaged(mut book: Book, random: &mut Random) -> Vec<u32> {
     // Two faults in one book show which of them is named.
     let faults = random.pick(&[1, 1, 1, 2, 3]);
     for _ in 0..faults {
-        match random.below(19) {
+        match random.below(24) {
             0..=3 => blind(&mut book.words, random),
             4 => head::damage(&mut book.words, random),
             5 => head::protection_count(&mut book.words, random),
             6 => head::date(&mut book.words, random),
             7 => end(&mut book.words, random),
-            8 => whole_record(&mut book, random),
+            8 => whole_record(&mut book, &MEMBERS_AND_ITEMS, random),
             9 | 10 => one_record(&mut book, &[9], random),
             11..=13 => one_record(&mut book, &[7], random),
+            14..=17 => one_record(&mut book, &[11], random),
+            18 => whole_record(&mut book, &[11], random),
             _ => one_record(&mut book, &MEMBERS_AND_ITEMS, random),
         }
     }
@@ -79,6 +82,18 @@ fn end(words: &mut Vec<u32>, random: &mut Random) {
     }
 }
 
+/// The amounts of what begins here, taken for a record of this kind; those of a
+/// basket are counted by the word as it stands now.
+fn amounts_at(words: &[u32], start: usize, kind: u32) -> usize {
+    let payload = words.get(start).map_or(0, |word| word & 0x0FFF_FFFF);
+    amounts(word(kind, payload))
+}
+
+/// Whether such a record lies wholly in the book.
+fn fits(words: &[u32], start: usize, kind: u32) -> bool {
+    start + amounts_at(words, start, kind) < words.len()
+}
+
 /// A record of one of the kinds, each kind as likely as the others, that
 /// earlier damage has not cut off.
 fn one_of(book: &Book, kinds: &[u32], random: &mut Random) -> Option<(usize, u32)> {
@@ -89,7 +104,7 @@ fn one_of(book: &Book, kinds: &[u32], random: &mut Random) -> Option<(usize, u32
             .iter()
             .filter(|span| span.kind == kind)
             .map(|span| span.start)
-            .filter(|start| start + amounts(kind) < book.words.len())
+            .filter(|&start| fits(&book.words, start, kind))
             .collect();
         if !starts.is_empty() {
             return Some((random.pick(&starts), kind));
@@ -104,20 +119,20 @@ fn one_record(book: &mut Book, kinds: &[u32], random: &mut Random) {
         return;
     };
     for _ in 0..random.pick(&[1, 1, 2, 3]) {
-        if start + amounts(kind) < book.words.len() {
+        if fits(&book.words, start, kind) {
             record::damage(&mut book.words, start, kind, random);
         }
     }
 }
 
 /// Leaves out, repeats or moves a whole record.
-fn whole_record(book: &mut Book, random: &mut Random) {
-    let Some((start, kind)) = one_of(book, &MEMBERS_AND_ITEMS, random) else {
+fn whole_record(book: &mut Book, kinds: &[u32], random: &mut Random) {
+    let Some((start, kind)) = one_of(book, kinds, random) else {
         return;
     };
     let other = one_of(book, &MEMBERS_AND_ITEMS, random);
     let elsewhere = other.map_or(start, |(start, _)| start);
-    let end = start + amounts(kind) + 1;
+    let end = start + amounts_at(&book.words, start, kind) + 1;
     let record = book.words[start..end].to_vec();
     match random.below(3) {
         0 => {

@@ -1,5 +1,6 @@
 //! Books that are to be accepted.
 
+mod baskets;
 mod derivatives;
 
 use super::dates::date;

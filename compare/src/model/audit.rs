@@ -1,5 +1,6 @@
 //! The pass over a book: record after record, with the register at hand.
 
+use super::basket::Basket;
 use super::factors::Bands;
 use super::head::Head;
 use super::records::{
@@ -75,10 +76,27 @@ impl<'a> Audit<'a> {
         let amounts = *rest
             .first_chunk::<AMOUNTS>()
             .ok_or(self.refuse(Cause::AmountMissing))?;
+        self.pass(&amounts)?;
+        R::read(Payload::of(*first), amounts).map_err(|cause| self.refuse(cause))
+    }
+
+    /// The same for a basket, whose word tells how many amounts follow.
+    fn basket(&mut self) -> Result<Basket, Refusal> {
+        self.in_hand = self.next;
+        let payload = Payload::of(self.book[self.in_hand]);
+        let amounts = self.book[self.in_hand + 1..]
+            .get(..Basket::amounts(payload))
+            .ok_or(self.refuse(Cause::AmountMissing))?;
+        self.pass(amounts)?;
+        Basket::read(payload, amounts).map_err(|cause| self.refuse(cause))
+    }
+
+    /// Moves behind the record in hand, whose amounts must be of kind 0.
+    fn pass(&mut self, amounts: &[u32]) -> Result<(), Refusal> {
         let all_amounts = amounts.iter().all(|&word| kind(word) == kinds::AMOUNT);
         self.require(Cause::AmountMissing, all_amounts)?;
-        self.next += 1 + AMOUNTS;
-        R::read(Payload::of(*first), amounts).map_err(|cause| self.refuse(cause))
+        self.next += 1 + amounts.len();
+        Ok(())
     }
 
     fn protections(&mut self) -> Result<(), Refusal> {
@@ -125,6 +143,10 @@ impl<'a> Audit<'a> {
                 Some(kinds::TRADE) => {
                     let trade: Trade = self.record()?;
                     tally.trade(&trade, &self.bands);
+                }
+                Some(kinds::BASKET) => {
+                    let basket = self.basket()?;
+                    tally.basket(&basket);
                 }
                 Some(kinds::WRITTEN_CREDIT) => {
                     let credit: WrittenCredit = self.record()?;

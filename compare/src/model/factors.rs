@@ -1,5 +1,6 @@
 //! Add-on and conversion factors, per thousand of the notional.
 
+use super::basket::Basket;
 use super::calendar::days_of_years;
 use super::records::{Trade, WrittenCredit};
 
@@ -105,6 +106,12 @@ pub fn written_add_on(credit: &WrittenCredit) -> i64 {
     } else {
         0
     }
+}
+
+/// The gross add-on of a basket, in thousandths: that of bought credit on the
+/// name with the n-th worst grade.
+pub fn basket_add_on(basket: &Basket) -> i64 {
+    credit_factor(basket.qualifying) * basket.notional
 }
 
 /// The part of an off-balance notional that counts, per thousand.

@@ -1,7 +1,7 @@
 //! Why and where a book is turned away.
 
 /// The causes in the order in which they are judged: that of the paper's table,
-/// with the date of request A.2 where it puts it.
+/// with the date of request A.2 and the basket of A.3 where these put them.
 #[derive(Clone, Copy, PartialEq, Eq, Debug)]
 pub enum Cause {
     RowsTooShort = 1,
@@ -18,6 +18,7 @@ pub enum Cause {
     NoSuchProtection = 11,
     ProtectionUnfit = 12,
     CoverTooLarge = 13,
+    BasketFaulty = 17,
     EndFaulty = 14,
 }
 

@@ -1,6 +1,7 @@
 //! What the tests of the model share: books written record by record.
 
 mod bands;
+mod baskets;
 mod calendar;
 mod refusals;
 mod samples;
@@ -47,6 +48,13 @@ impl Book {
 
     fn trade(self, class: u32, value: i32, notional: i32, days: i32) -> Self {
         self.add(5, class | 1 << 3, &[value, notional, days, days])
+    }
+
+    /// A basket with as many names as there are grades.
+    fn basket(self, nth: u32, value_and_notional: [i32; 2], grades: &[i32]) -> Self {
+        let names = u32::try_from(grades.len()).unwrap();
+        let amounts = [&value_and_notional, grades].concat();
+        self.add(11, nth | names << 6, &amounts)
     }
 
     fn end(mut self) -> Vec<u32> {

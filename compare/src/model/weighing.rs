@@ -1,6 +1,7 @@
 //! What a set of derivatives or of financing trades comes to.
 
-use super::factors::{trade_add_on, written_add_on, Bands};
+use super::basket::Basket;
+use super::factors::{basket_add_on, trade_add_on, written_add_on, Bands};
 use super::records::{DerivativeHead, FinancingHead, FinancingTrade, Trade, WrittenCredit};
 
 /// The sums over a derivative set: values in units, add-ons in thousandths.
@@ -16,6 +17,11 @@ impl DerivativeTally {
     pub fn trade(&mut self, trade: &Trade, bands: &Bands) {
         self.value(trade.value);
         self.add_on += trade_add_on(trade, bands);
+    }
+
+    pub fn basket(&mut self, basket: &Basket) {
+        self.value(basket.value);
+        self.add_on += basket_add_on(basket);
     }
 
     pub fn written(&mut self, credit: &WrittenCredit, covered: bool) {

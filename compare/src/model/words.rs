@@ -15,6 +15,7 @@ pub mod kinds {
     pub const FINANCING_SET: u32 = 8;
     pub const FINANCING_TRADE: u32 = 9;
     pub const OFF_BALANCE: u32 = 10;
+    pub const BASKET: u32 = 11;
     pub const END: u32 = 15;
 }
 

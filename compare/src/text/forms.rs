@@ -1,5 +1,7 @@
 //! The keywords of the text form and what each stands for.
 
+use super::amount;
+
 /// What a keyword stands for.
 pub struct Form {
     pub keyword: &'static str,
@@ -7,6 +9,15 @@ pub struct Form {
     pub marks: &'static [(&'static str, u32)],
     pub fields: &'static [Field],
     pub amounts: &'static [&'static str],
+    pub list: Option<List>,
+}
+
+/// Amounts behind the others, as many as are written: name=9,10,12. None where
+/// it is left out. A field of the payload has their count.
+pub struct List {
+    pub name: &'static str,
+    pub low: u32,
+    width: u32,
 }
 
 /// A payload field: a number, or one of the names counted from 0.
@@ -62,6 +73,7 @@ pub const FORMS: &[Form] = &[
         marks: &[],
         fields: &[field("entity", 0, 16), field("rank", 16, 4)],
         amounts: &["notional", "gain", "days"],
+        list: None,
     },
     Form {
         keyword: "asset",
@@ -69,6 +81,7 @@ pub const FORMS: &[Form] = &[
         marks: &[("fiduciary", 1)],
         fields: &[],
         amounts: &["carrying", "provision", "deducted"],
+        list: None,
     },
     Form {
         keyword: "set",
@@ -85,6 +98,7 @@ pub const FORMS: &[Form] = &[
         ],
         fields: &[],
         amounts: &["received", "paid", "posted"],
+        list: None,
     },
     Form {
         keyword: "trade",
@@ -102,6 +116,7 @@ pub const FORMS: &[Form] = &[
         ],
         // A reset left out is the days remaining.
         amounts: &["value", "notional", "days", "reset"],
+        list: None,
     },
     Form {
         keyword: "sold",
@@ -113,6 +128,7 @@ pub const FORMS: &[Form] = &[
         ],
         fields: &[field("entity", 0, 16), field("rank", 16, 4)],
         amounts: &["value", "notional", "loss", "days", "premiums"],
+        list: None,
     },
     Form {
         keyword: "cover",
@@ -120,6 +136,22 @@ pub const FORMS: &[Form] = &[
         marks: &[],
         fields: &[field("protection", 0, 12)],
         amounts: &["amount"],
+        list: None,
+    },
+    Form {
+        keyword: "basket",
+        kind: 11,
+        marks: &[],
+        fields: &[Field {
+            left_out: 1,
+            ..field("nth", 0, 6)
+        }],
+        amounts: &["value", "notional"],
+        list: Some(List {
+            name: "grades",
+            low: 6,
+            width: 6,
+        }),
     },
     Form {
         keyword: "financing",
@@ -127,6 +159,7 @@ pub const FORMS: &[Form] = &[
         marks: &[("netting", 1), ("agent", 1 << 1), ("further", 1 << 2)],
         fields: &[],
         amounts: &[],
+        list: None,
     },
     Form {
         keyword: "repo",
@@ -142,6 +175,7 @@ pub const FORMS: &[Form] = &[
             "received",
             "days",
         ],
+        list: None,
     },
     Form {
         keyword: "commitment",
@@ -159,6 +193,7 @@ pub const FORMS: &[Form] = &[
             },
         ],
         amounts: &["notional"],
+        list: None,
     },
 ];
 
@@ -177,5 +212,17 @@ impl Field {
 
     fn refuse(&self, text: &str) -> String {
         format!("{text} is no {}", self.name)
+    }
+}
+
+impl List {
+    pub fn read(&self, text: &str) -> Result<Vec<u32>, String> {
+        let name = self.name;
+        let amounts: Result<Vec<u32>, String> = text.split(',').map(amount).collect();
+        match amounts {
+            Ok(amounts) if amounts.len() >> self.width == 0 => Ok(amounts),
+            Ok(amounts) => Err(format!("{} {name} are too many to count", amounts.len())),
+            Err(_) => Err(format!("{name}={text} is no list like {name}=9,10,12")),
+        }
     }
 }

@@ -55,7 +55,7 @@ fn sample_has_every_kind_and_is_accepted() {
     let mut register = [Entry::default(); 8];
     let answer = file(&book, &mut [0; ROWS], &mut register);
     assert_eq!((answer.number, answer.place), (0, 0));
-    for kind in (0..=10).chain([15]) {
+    for kind in (0..=11).chain([15]) {
         assert!(book.iter().any(|word| word >> 28 == kind));
     }
 }
@@ -68,9 +68,50 @@ fn mistakes_are_named_with_their_line() {
         ("asset red=1", "line 4: asset has no field red"),
         ("trade class=8", "line 4: 8 is no class"),
         ("repo lent=1 lent=1", "line 4: lent is given twice"),
+        ("trade grades=9", "line 4: trade has no field grades"),
+        ("basket names=1", "line 4: basket has no field names"),
+        ("basket nth=64", "line 4: 64 is no nth"),
+        ("basket grades=9 grades=9", "line 4: grades is given twice"),
     ] {
         let text = format!("tier1 1\ndate 2096-03-01\n# x\n{text}");
         assert_eq!(words(&text), Err(message.to_string()));
+    }
+}
+
+/// The words of one basket in a book that has nothing else.
+fn basket_words(fields: &str) -> Result<Vec<u32>, String> {
+    let mut book = words(&format!("tier1 1\ndate 2096-03-01\nbasket {fields}"))?;
+    book.pop();
+    Ok(book.split_off(FIRST_RECORD))
+}
+
+#[test]
+fn baskets_count_their_grades() {
+    let minus = 1 << 27;
+    for (fields, expected) in [
+        (
+            "nth=2 value=-5 notional=1000 grades=9,10,12",
+            vec![0xB000_00C2, minus | 5, 1_000, 9, 10, 12],
+        ),
+        ("grades=31", vec![0xB000_0041, 0, 0, 31]),
+        // Faulty baskets can be written as well.
+        ("nth=0 notional=7", vec![0xB000_0000, 0, 7]),
+        ("nth=63 grades=32,-0", vec![0xB000_00BF, 0, 0, 32, minus]),
+    ] {
+        assert_eq!(basket_words(fields), Ok(expected));
+    }
+    let zeros = |count| format!("grades={}", vec!["0"; count].join(","));
+    let most = basket_words(&zeros(63)).unwrap();
+    assert_eq!((most[0], most.len()), (0xB000_0FC1, 66));
+    let message = "line 3: 64 grades are too many to count";
+    assert_eq!(basket_words(&zeros(64)), Err(message.to_string()));
+}
+
+#[test]
+fn mistakes_in_grades_are_named() {
+    for grades in ["", ",", "9,", ",9", "9,,10", "9;10", "9,x", "134217728"] {
+        let message = format!("line 3: grades={grades} is no list like grades=9,10,12");
+        assert_eq!(basket_words(&format!("grades={grades}")), Err(message));
     }
 }
 

@@ -14,9 +14,6 @@ two-factors x y f p = mul-le-mul {n₁ = x} {m₁ = y} {n₂ = 150} {m₂ = 255}
 pub three-factors : (x y z : ℕ) → x ≤ 150 → y < 2 ^ 8 → z < 2 ^ 27 → x * y * z ≤ 38250 * 2 ^ 27
 three-factors x y z f p n = mul-le-mul {n₁ = x * y} {m₁ = z} {n₂ = 38250} {m₂ = 2 ^ 27} (two-factors x y f p) (omega arith)
 
-pub credit-product : (x y : ℕ) → x ≤ 100 → y < 2 ^ 27 → x * y ≤ 100 * 2 ^ 27
-credit-product x y f n = mul-le-mul {n₁ = x} {m₁ = y} {n₂ = 100} {m₂ = 2 ^ 27} f (omega arith)
-
 -- never more than there was
 pub kept-under : (kept addOn covered notional : ℕ) → kept ≡ keptIn addOn covered notional → kept ≤ addOn
 kept-under kept addOn covered notional e = rw e (go (eqb covered 0))

@@ -7,7 +7,7 @@ use native.Mathlib.Nat.{add-zero, zero-add, add-assoc}
 use lib.ListN.{length}
 use Rattle.rules.specs.declared.Bands.{Bands}
 use Rattle.rules.specs.Word.{word, sizeOf}
-use Rattle.rules.specs.Book.{Trade, Cover, Member, trade, written}
+use Rattle.rules.specs.Book.{Cover, Member, written}
 use Rattle.rules.specs.Run.{Turn, over, bad, some, Run, thenRun, runFrom}
 use Rattle.rules.specs.Read.{coverAt, coverTurn, writtenAt, withCovers, memberTurn}
 use Rattle.rules.specs.Register.{drawsFrom, drawsOf}
@@ -44,9 +44,11 @@ module _ (bands : Bands) (ws : List ℕ) (begin : ℕ) where
     member-bad zero place e n = absurd (n refl)
     member-bad (suc number) place e n = by-member (bad (suc number) place) e
 
-    pub member-trade : (x : Trade) (next : ℕ) → memberTurn ws at ≡ some (trade x) 0 next → fromMember bands ws begin t at ≡ fromMember bands ws begin (plusMember bands t (trade x)) next
-    unfolding drawsOf fromMember
-    member-trade x next e = by-member (some (trade x) 0 next) e ∙ simp add-assoc
+    -- a member without covers
+    pub member-more : (x : Member) → ((ms : List Member) → drawsOf begin (x ∷ ms) ≡ drawsOf begin ms) → (next : ℕ) → memberTurn ws at ≡ some x 0 next
+        → fromMember bands ws begin t at ≡ fromMember bands ws begin (plusMember bands t x) next
+    unfolding fromMember
+    member-more x plain next e = by-member (some x 0 next) e ∙ rw (plain (memberRun next .records)) (simp add-assoc)
 
     -- a written credit opens, and its covers are due
     abbrev pub opening : OpenCredit

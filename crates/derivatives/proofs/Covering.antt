@@ -8,13 +8,13 @@ use native.Mathlib.Omega.{arith}
 use lib.ListN.{length}
 use Rattle.rules.specs.declared.Bands.{Bands}
 use Rattle.rules.specs.declared.Draw.{Draw}
-use Rattle.rules.specs.Word.{word, sizeOf, amountsOfKind}
+use Rattle.rules.specs.Word.{word, sizeOf}
 use Rattle.rules.specs.Book.{Cover}
 use Rattle.rules.specs.Run.{Turn, bad, some}
 use Rattle.rules.specs.Read.{lacks, stands, recordThen, coverAt, coverTurn, writtenAt}
 use Rattle.records.specs.Readable.{Readable}
 use Rattle.records.proofs.Words.{whole, record-faulty, record-good}
-use Rattle.laws.proofs.Records.{stands-is}
+use Rattle.laws.proofs.Records.{stands-is, amounts-at}
 use Rattle.laws.proofs.FactorBounds.{gain-small, loss-small, written-add-on}
 use Rattle.derivatives.specs.declared.tally.Tally.{Tally}
 use Rattle.derivatives.specs.declared.covers.OpenCredit.{OpenCredit}
@@ -116,13 +116,13 @@ module _ {ws : List ℕ} {o : OpenSet} (s : SoundSet ws o) where
         → ((bands : Bands) → fromCover bands ws begin (o .tally) (o .credit) (o .at) ≡ endsWith (refused f (o .at))) × (o .at ≤ length ws)
     cover-faulty begin n = (
       λ bands. cover-bad bands ws begin (o .tally) (o .credit) (o .at) (s .readable .within) f (o .at)
-          (cover-turn ∙ record-faulty ws (o .at) 1 (ap amountsOfKind (stands-is 7 ws (o .at) k .1)) (coverFaultOf (coverWords ws (o .at))) coverNext (λ z. n (q ∙ z)) ∙ ap (λ (x : ℕ). bad x (o .at)) (sym q)) n,
+          (cover-turn ∙ record-faulty ws (o .at) 1 (amounts-at _ (stands-is 7 ws (o .at) k .1)) (coverFaultOf (coverWords ws (o .at))) coverNext (λ z. n (q ∙ z)) ∙ ap (λ (x : ℕ). bad x (o .at)) (sym q)) n,
       s .readable .within,
     )
 
     module _ (z : f ≡ 0) where
       good : (lacks 1 ws (o .at) ≡ false) × (recordThen ws (o .at) (coverFaultOf (coverWords ws (o .at))) coverNext ≡ coverNext (o .at + 2))
-      good = record-good ws (o .at) 1 (ap amountsOfKind (stands-is 7 ws (o .at) k .1)) (coverFaultOf (coverWords ws (o .at))) coverNext (sym q ∙ z)
+      good = record-good ws (o .at) 1 (amounts-at _ (stands-is 7 ws (o .at) k .1)) (coverFaultOf (coverWords ws (o .at))) coverNext (sym q ∙ z)
 
       pub cover-readable : Readable (o .at + 2) ws
       cover-readable = whole 1 refl (good .0) (cover-there k)

@@ -6,4 +6,6 @@ pub mod Entry
 pub mod Ahead
 pub mod Turns
 pub mod Covering
+pub mod Baskets
+pub mod Stretching
 pub mod Weighing

@@ -11,10 +11,6 @@ use Rattle.rules.specs.Word.{bitOf}
 
 -- ---- the days to the next reset
 
-pub mark-fits : (mark : Bool) (one : ℕ) → one ≡ cond mark 1 0 → one ≤ 1
-mark-fits true one is = omega arith
-mark-fits false one is = omega arith
-
 -- with the mark, counted as 1, no gap is beyond what is allowed, and without it any gap is
 module _ (mark : Bool) (one remaining next : ℕ) (is : one ≡ cond mark 1 0) (short : remaining < 2 ^ 27) (order : next ≤ remaining) where
   pub gap-beyond : ltb (2 ^ 27 * one) (remaining - next) ≡ (not mark && not (eqb next remaining))

@@ -1,23 +1,25 @@
 -- What stands where a member of a set is due: what lies ahead behind it, and how large the tally is. Assumes nothing.
 use Prim.Native.Nat.{ℕ, suc, _+_, _-_, _^_, _≤_, _<_}
 use mathlib.Core.Path.{_≡_, refl, sym, _∙_, ap}
-use mathlib.Core.Bool.{true, false}
-use mathlib.Core.List.{List}
+use mathlib.Core.Bool.{true, false, and-false}
+use mathlib.Core.List.{List, _∷_}
 use native.Mathlib.Omega.{arith}
 use borrow.Author.Tests.{le-ltb, lt-ltb, ne-eqb, ltb-false}
 use lib.ListN.{length}
 use Rattle.rules.specs.declared.Bands.{Bands}
 use Rattle.rules.specs.Word.{word, kindOf, sizeOf, amountsOfKind}
-use Rattle.rules.specs.Book.{Member, trade}
+use Rattle.rules.specs.Book.{Trade, Member, trade}
 use Rattle.rules.specs.Run.{Turn, bad, some, runFrom}
 use Rattle.rules.specs.Faults.{writtenFault}
+use Rattle.rules.specs.Register.{drawsOf}
+use Rattle.rules.specs.Weigh.{lossIn, uncoveredIn}
 use Rattle.rules.specs.Read.{lacks, stands, recordThen, coverTurn, withCovers, writtenTurn, tradeAt, tradeTurn, memberTurn}
 use Rattle.rules.proofs.Runs.{FineTurn}
 use Rattle.records.specs.Readable.{Readable}
 use Rattle.records.specs.Cause.{recordCause}
 use Rattle.records.proofs.Words.{whole, record-faulty, record-good}
 use Rattle.laws.proofs.Valid.{cause-none}
-use Rattle.laws.proofs.Records.{stands-is}
+use Rattle.laws.proofs.Records.{stands-is, amounts-at}
 use Rattle.laws.proofs.FactorBounds.{loss-small}
 use Rattle.laws.proofs.MemberBounds.{perWord, memberWeight, fine-member}
 use Rattle.derivatives.specs.declared.read.TradeWords.{TradeWords}
@@ -29,7 +31,7 @@ use Rattle.derivatives.specs.Words.{tradeWords, tradeOf, tradeFaultOf, t
 use Rattle.derivatives.specs.Gathered.{plusMember, TallyRoomy}
 use Rattle.derivatives.specs.Ahead.{setAhead, noCredit, TallyUpTo, Standing, MemberRead}
 use Rattle.derivatives.proofs.Layouts.{trade-laid}
-use Rattle.derivatives.proofs.Ahead.{member-over, member-bad, member-trade, member-opens}
+use Rattle.derivatives.proofs.Ahead.{member-bad, member-more, member-opens}
 
 -- ---- how large a tally is
 
@@ -52,15 +54,13 @@ loss-under w e =
     ltb-false _ _ (cause-none 8 _ _ b .0)
 
 module _ {ws : List ℕ} {t : Tally} {at : ℕ} (s : Standing ws at t) where
-  -- ---- no member
+  -- ---- neither a trade nor a written credit
 
   pub none-beyond : (bands : Bands) → length ws ≤ at → MemberRead bands ws at t (End t)
-  unfolding memberTurn
-  none-beyond bands h = (λ begin. member-over bands ws begin t at (s .readable .within) (simp (le-ltb at (length ws) h)), s .small)
+  none-beyond bands h = (λ begin. refl, (s .small, (simp (le-ltb at (length ws) h), simp (le-ltb at (length ws) h))))
 
   pub none-there : (bands : Bands) → at < length ws → {k : ℕ} → k ≡ kindOf (word ws at) → (k ≡ 5 → ⊥) → (k ≡ 6 → ⊥) → MemberRead bands ws at t (End t)
-  unfolding memberTurn
-  none-there bands h {k} kq n m = (λ begin. member-over bands ws begin t at (s .readable .within) (simp (lt-ltb at (length ws) h, ← kq, ne-eqb k 5 n, ne-eqb k 6 m)), s .small)
+  none-there bands h {k} kq n m = (λ begin. refl, (s .small, (simp (← kq, ne-eqb k 5 n, and-false), simp (← kq, ne-eqb k 6 m, and-false))))
 
   -- ---- a record of some kind, by its cause
 
@@ -68,19 +68,45 @@ module _ {ws : List ℕ} {t : Tally} {at : ℕ} (s : Standing ws at t) where
     pub head-there : Readable (suc at) ws
     head-there = record { within = omega (arith, stands-is kind ws at k .0); short = s .readable .short }
 
-    module _ (fault : ℕ) (next : ℕ → Turn Member) (turn : memberTurn ws at ≡ recordThen ws at fault next) {f : ℕ} (q : f ≡ recordCause (amountsOfKind kind) ws at fault) where
-      faulty : (bands : Bands) → (f ≡ 0 → ⊥) → MemberRead bands ws at t (Refused f at)
+    module _ (fault : ℕ) (next : ℕ → Turn Member) (turn : memberTurn ws at ≡ recordThen ws at fault next) {f : ℕ} (q : f ≡ recordCause (amountsOfKind kind (word ws at)) ws at fault) where
+      pub faulty : (bands : Bands) → (f ≡ 0 → ⊥) → MemberRead bands ws at t (Refused f at)
       faulty bands n = (
         λ begin. member-bad bands ws begin t at (s .readable .within) f at
-            (turn ∙ record-faulty ws at (amountsOfKind kind) (ap amountsOfKind (stands-is kind ws at k .1)) fault next (λ z. n (q ∙ z)) ∙ ap (λ (x : ℕ). bad x at) (sym q)) n,
+            (turn ∙ record-faulty ws at (amountsOfKind kind (word ws at)) (amounts-at _ (stands-is kind ws at k .1)) fault next (λ z. n (q ∙ z)) ∙ ap (λ (x : ℕ). bad x at) (sym q)) n,
         s .readable .within,
       )
 
-      good : f ≡ 0 → (lacks (amountsOfKind kind) ws at ≡ false) × (recordThen ws at fault next ≡ next (at + suc (amountsOfKind kind)))
-      good z = record-good ws at (amountsOfKind kind) (ap amountsOfKind (stands-is kind ws at k .1)) fault next (sym q ∙ z)
+      good : f ≡ 0 → (lacks (amountsOfKind kind (word ws at)) ws at ≡ false) × (recordThen ws at fault next ≡ next (at + suc (amountsOfKind kind (word ws at))))
+      good z = record-good ws at (amountsOfKind kind (word ws at)) (amounts-at _ (stands-is kind ws at k .1)) fault next (sym q ∙ z)
 
-      readable : f ≡ 0 → Readable (at + suc (amountsOfKind kind)) ws
-      readable z = whole (amountsOfKind kind) refl (good z .0) head-there
+      readable : f ≡ 0 → Readable (at + suc (amountsOfKind kind (word ws at))) ws
+      readable z = whole (amountsOfKind kind (word ws at)) refl (good z .0) head-there
+
+    -- a member without covers, which joins the tally as it is
+    module _ (fault : ℕ) (x : Member) (plain : (begin : ℕ) (ms : List Member) → drawsOf begin (x ∷ ms) ≡ drawsOf begin ms) (covered : uncoveredIn x ≡ 0) (loss : lossIn x < 2 ^ 27)
+        (turn : memberTurn ws at ≡ recordThen ws at fault (some x 0)) {f : ℕ} (q : f ≡ recordCause (amountsOfKind kind (word ws at)) ws at fault) (z : f ≡ 0) (bands : Bands) where
+      abbrev next : ℕ
+      next = at + suc (amountsOfKind kind (word ws at))
+
+      turn-is : memberTurn ws at ≡ some x 0 next
+      turn-is = turn ∙ good fault (some x 0) turn q z .1
+
+      small : TallyUpTo (plusMember bands t x) next
+      small =
+          let w : FineTurn (length ws) perWord (memberWeight bands) at (some x 0 next) = rw turn-is at (fine-member bands ws at (s .readable .within)) in
+          record {
+            weight = omega (arith, s .small .weight, w .2);
+            losses = omega (arith, s .small .losses, loss, w .0);
+            uncovered = omega (arith, s .small .uncovered, covered);
+          }
+
+      pub joins : {more : Tally} → more ≡ plusMember bands t x → {c : OpenCredit} → c ≡ noCredit → MemberRead bands ws at t (Next (record { at = next; tally = more; credit = c }))
+      unfolding setAhead
+      joins mq cq =
+          rw (cq, mq) (
+            λ begin. member-more bands ws begin t at (s .readable .within) x (plain begin) next turn-is,
+            (record { readable = readable fault (some x 0) turn q z; small = small; credit = λ y. let z : _≡_ {A = ℕ} 0 1 = cc in absurd (omega arith) }, omega arith),
+          )
 
   -- ---- kind 5
 
@@ -99,29 +125,11 @@ module _ {ws : List ℕ} {t : Tally} {at : ℕ} (s : Standing ws at t) where
       pub trade-readable : Readable (at + 5) ws
       trade-readable = readable 5 k (tradeFaultOf (tradeWords ws at)) tradeNext trade-turn q z
 
-      trade-is : memberTurn ws at ≡ some (trade (tradeAt ws at)) 0 (at + 5)
-      trade-is = trade-turn ∙ good 5 k (tradeFaultOf (tradeWords ws at)) tradeNext trade-turn q z .1
-
-      module _ (bands : Bands) where
-        trade-small : TallyUpTo (plusMember bands t (trade (tradeAt ws at))) (at + 5)
-        unfolding tradeAt
-        trade-small =
-            let w : FineTurn (length ws) perWord (memberWeight bands) at (some (trade (tradeAt ws at)) 0 (at + 5)) = rw trade-is at (fine-member bands ws at (s .readable .within)) in
-            record {
-              weight = omega (arith, s .small .weight, w .2);
-              losses = omega (arith, s .small .losses, loss-small (word ws (at + 1)));
-              uncovered = omega (arith, s .small .uncovered);
-            }
-
-        pub trade-good : {x : TradeWords} → x ≡ tradeWords ws at → {more : Tally} → more ≡ plusMember bands t (trade (tradeOf x)) → {c : OpenCredit} → c ≡ noCredit
-            → MemberRead bands ws at t (Next (record { at = at + 5; tally = more; credit = c }))
-        unfolding setAhead
-        trade-good xq {more} mq cq =
-            let is : more ≡ plusMember bands t (trade (tradeAt ws at)) = mq ∙ rw (trade-laid ws at xq) in
-            rw (cq, is) (
-              λ begin. member-trade bands ws begin t at (s .readable .within) (tradeAt ws at) (at + 5) trade-is,
-              (record { readable = trade-readable; small = trade-small; credit = λ x. let y : _≡_ {A = ℕ} 0 1 = cc in absurd (omega arith) }, omega arith),
-            )
+      pub trade-good : (bands : Bands) {x : TradeWords} → x ≡ tradeWords ws at → {more : Tally} → more ≡ plusMember bands t (trade (tradeOf x)) → {c : OpenCredit} → c ≡ noCredit
+          → MemberRead bands ws at t (Next (record { at = at + 5; tally = more; credit = c }))
+      unfolding tradeAt drawsOf
+      trade-good bands xq mq cq =
+          joins 5 k (tradeFaultOf (tradeWords ws at)) (trade (tradeAt ws at)) (λ begin ms. refl) refl (loss-small (word ws (at + 1))) trade-turn q z bands (mq ∙ ap (λ (y : Trade). plusMember bands t (trade y)) (trade-laid ws at xq)) cq
 
   -- ---- kind 6, which opens
 

@@ -11,7 +11,7 @@ use Rattle.rules.specs.Word.{word, sizeOf}
 use Rattle.rules.specs.Book.{Member, total}
 use Rattle.rules.specs.Book as book
 use Rattle.rules.specs.Run.{Run, runFrom}
-use Rattle.rules.specs.Read.{coverTurn, writtenAt, memberTurn}
+use Rattle.rules.specs.Read.{stands, coverTurn, writtenAt, memberTurn}
 use Rattle.rules.specs.Register.{drawsFrom, drawsOf}
 use Rattle.records.specs.Readable.{Readable}
 use Rattle.derivatives.specs.declared.tally.Tally.{Tally}
@@ -21,6 +21,10 @@ use Rattle.derivatives.specs.declared.read.CoverWords.{CoverWords}
 use Rattle.derivatives.specs.declared.set.OpenSet.{OpenSet}
 use Rattle.derivatives.specs.declared.set.Weighed.{Weighed}
 use Rattle.derivatives.specs.declared.set.Weighed.the-variants.{Cover, Whole, Refused}
+use Rattle.derivatives.specs.declared.set.Stretch.{Stretch}
+use Rattle.derivatives.specs.declared.set.Stretch.the-variants as stretch
+use Rattle.derivatives.specs.declared.members.BasketStep.{BasketStep}
+use Rattle.derivatives.specs.declared.members.BasketStep.the-variants as basket
 use Rattle.derivatives.specs.declared.members.MemberStep.{MemberStep}
 use Rattle.derivatives.specs.declared.members.MemberStep.the-variants.{Next, End}
 use Rattle.derivatives.specs.declared.members.MemberStep.the-variants as step
@@ -136,22 +140,43 @@ pub record Standing (ws : List ℕ) (at : ℕ) (t : Tally) : Type 0 where
 
 -- ---- the answers
 
--- one step: a member more, a cover to be drawn, no member, or a fault
+-- neither a trade nor a written credit stands at a place
+abbrev pub Neither : List ℕ → ℕ → Type 0
+Neither ws at = (stands 5 ws at ≡ false) × (stands 6 ws at ≡ false)
+
+-- one step: a member more, a cover to be drawn, neither a trade nor a written credit, or a fault
 abbrev pub stepAhead : Bands → List ℕ → (begin at : ℕ) → MemberStep → SetAhead
 stepAhead bands ws begin at (Next o) = setAhead bands ws begin o
 stepAhead bands ws begin at (step.Cover d o) = after (d ∷ []) (setAhead bands ws begin o)
-stepAhead bands ws begin at (End t) = endsWith (gathered t at)
+stepAhead bands ws begin at (End t) = fromMember bands ws begin t at
 stepAhead bands ws begin at (step.Refused number place) = endsWith (refused number place)
 
 abbrev pub SoundStep : List ℕ → (at : ℕ) → MemberStep → Type 0
 SoundStep ws at (Next o) = SoundSet ws o × (at < o .at)
 SoundStep ws at (step.Cover d o) = SoundSet ws o
-SoundStep ws at (End t) = TallyUpTo t at
+SoundStep ws at (End t) = TallyUpTo t at × Neither ws at
 SoundStep ws at (step.Refused number place) = place ≤ length ws
 
 -- what stood where a member was due, wherever the set begins
 abbrev pub MemberRead : Bands → List ℕ → (at : ℕ) → Tally → MemberStep → Type 0
 MemberRead bands ws at t r = ((begin : ℕ) → fromMember bands ws begin t at ≡ stepAhead bands ws begin at r) × SoundStep ws at r
+
+-- a stretch of them from a place on
+abbrev pub stretchAhead : Bands → List ℕ → (begin : ℕ) → Stretch → SetAhead
+stretchAhead bands ws begin (stretch.Cover d o) = after (d ∷ []) (setAhead bands ws begin o)
+stretchAhead bands ws begin (stretch.Over t place) = fromMember bands ws begin t place
+stretchAhead bands ws begin (stretch.Refused number place) = endsWith (refused number place)
+
+abbrev pub SoundStretch : List ℕ → (from : ℕ) → Stretch → Type 0
+SoundStretch ws from (stretch.Cover d o) = SoundSet ws o
+SoundStretch ws from (stretch.Over t place) = Standing ws place t × (Neither ws place × (from ≤ place))
+SoundStretch ws from (stretch.Refused number place) = place ≤ length ws
+
+-- a basket, if one stands there
+abbrev pub BasketTaken : List ℕ → (at : ℕ) → Tally → BasketStep → Type 0
+BasketTaken ws at t (basket.Next o) = (bands : Bands) → MemberRead bands ws at t (Next o)
+BasketTaken ws at t basket.None = stands 11 ws at ≡ false
+BasketTaken ws at t (basket.Refused number) = (bands : Bands) → MemberRead bands ws at t (step.Refused number at)
 
 -- the next cover, or the end
 abbrev pub weighedAhead : Bands → List ℕ → (begin : ℕ) → Weighed → SetAhead

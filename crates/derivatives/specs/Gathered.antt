@@ -5,6 +5,7 @@ use mathlib.Core.Bool.{Bool, cond}
 use mathlib.Core.List.{List}
 use Rattle.rules.specs.declared.Bands.{Bands}
 use Rattle.rules.specs.declared.Sums.{Sums}
+use Rattle.rules.specs.Word.{gainOf, lossOf}
 use Rattle.rules.specs.Book.{WrittenCredit, Member, DerivativeSet, total}
 use Rattle.rules.specs.Weighted.{weightedOf}
 use Rattle.rules.specs.Weigh.{writtenAddOn, keptIn, gainIn, lossIn, addOnIn, uncoveredIn, writtenIn, coversIn, marginOffsets, replacementOf, weightedIn}
@@ -37,6 +38,17 @@ plusWritten t w covered = record {
   uncovered = t .uncovered + (writtenAddOn w - keptIn (writtenAddOn w) covered (w .notional));
   written = t .written + (w .notional - w .lossTaken);
   covered = t .covered + covered;
+}
+
+-- with a basket of such a value and add-on
+abbrev pub plusBasket : Tally → (value addOn : ℕ) → Tally
+plusBasket t value addOn = record {
+  gains = t .gains + gainOf value;
+  losses = t .losses + lossOf value;
+  gross = t .gross + addOn;
+  uncovered = t .uncovered;
+  written = t .written;
+  covered = t .covered;
 }
 
 -- with all of these members

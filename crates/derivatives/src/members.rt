@@ -1,4 +1,4 @@
-// The members of a derivative set: trades, and written credits with their covers.
+// The members of a derivative set: trades, written credits with their covers, and baskets.
 use crate::covers::OpenCredit;
 use crate::covers::cover_cause;
 use crate::covers::cover_due;
@@ -11,7 +11,10 @@ use crate::read::trade_words;
 use crate::read::written_words;
 use crate::set::OpenSet;
 use crate::tally::Tally;
+use baskets::BasketRead;
+use baskets::basket_at;
 use records::presence::lacking;
+use records::presence::standing;
 use rules::Bands;
 use rules::Draw;
 use rules::amounts;
@@ -29,10 +32,10 @@ ghost use Rattle.rules.specs.declared.Bands as bands;
 ghost use Rattle.rules.specs.Read.{stands};
 ghost use Rattle.records.specs.Readable.{Readable};
 ghost use Rattle.derivatives.specs.Words.{tradeCause, writtenCause};
-ghost use Rattle.derivatives.specs.Ahead.{MemberRead, SoundSet, SoundStep, Standing, closedTally, fromCover, setAhead, stepAhead};
+ghost use Rattle.derivatives.specs.Ahead.{BasketTaken, MemberRead, SoundSet, SoundStep, Standing, closedTally, fromCover, setAhead, stepAhead};
 
-// The set with one member more; the next cover, and the set behind it; no member, and the tally of all; or the number and the place of
-// the first fault.
+// The set with one member more; the next cover, and the set behind it; neither a trade nor a written credit, and the tally of all before; or
+// the number and the place of the first fault.
 pub enum MemberStep {
     Next(OpenSet),
     Cover(Draw, OpenSet),
@@ -183,4 +186,38 @@ fn written(part: &[u32], at: usize, t: Tally) -> MemberStep
         credit: credit,
     };
     MemberStep::Next(next)
+}
+
+// The set with a basket more; no basket; or the number of its cause.
+pub enum BasketStep {
+    Next(OpenSet),
+    None,
+    Refused(u32),
+}
+
+// Kind 11, which no cover follows and whose factor no band decides.
+pub fn basket(part: &[u32], at: usize, t: Tally) -> BasketStep
+    requires { ⌜ Standing (now part) at t ⌝ }
+    ensures { λ r. ⌜ BasketTaken (now (part .entry)) at t r ⌝ }
+{
+    if !standing(part, at, kinds::BASKET) {
+        return BasketStep::None;
+    }
+    match basket_at(part, at) {
+        BasketRead::Refused(number) => {
+            return BasketStep::Refused(number);
+        }
+        BasketRead::Whole {
+            value,
+            add_on,
+            next,
+        } => {
+            let behind = OpenSet {
+                at: next,
+                tally: t.add_basket(value, add_on),
+                credit: OpenCredit::none(),
+            };
+            return BasketStep::Next(behind);
+        }
+    }
 }

@@ -18,7 +18,7 @@ ghost use Prim.Native.Nat.{_≤_, _^_};
 ghost use Rattle.rules.specs.Word.{sizeOf};
 ghost use Rattle.rules.specs.Book.{trade};
 ghost use Rattle.rules.specs.Weigh.{keptIn, tradeAddOn, writtenAddOn};
-ghost use Rattle.derivatives.specs.Gathered.{TallyRoomy, noTally, plusMember, plusWritten};
+ghost use Rattle.derivatives.specs.Gathered.{TallyRoomy, noTally, plusBasket, plusMember, plusWritten};
 ghost use Rattle.derivatives.specs.Words.{tradeOf, writtenOf};
 
 // The gains and losses of the values, the gross add-on, those of written credits without cover, notional less loss of written
@@ -53,6 +53,17 @@ impl Tally {
         let add_on = trade_add_on(bands, t);
         self.gains = self.gains + wide(gain(t.value));
         self.losses = self.losses + wide(loss(t.value));
+        self.gross = self.gross + add_on;
+        self
+    }
+
+    // A basket joins V, G and A "like a trade".
+    pub fn add_basket(mut self, value: u32, add_on: u64) -> Tally
+        requires { ⌜ TallyRoomy self × («add_on» ≤ 2 ^ 62) ⌝ }
+        ensures { λ r. ⌜ r ≡ plusBasket self value «add_on» ⌝ }
+    {
+        self.gains = self.gains + wide(gain(value));
+        self.losses = self.losses + wide(loss(value));
         self.gross = self.gross + add_on;
         self
     }

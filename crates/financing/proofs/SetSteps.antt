@@ -7,7 +7,7 @@ use native.Mathlib.Omega.{arith}
 use lib.ListN.{length}
 use Rattle.rules.specs.declared.Bands.{Bands}
 use Rattle.rules.specs.declared.Sums.{Sums}
-use Rattle.rules.specs.Word.{word, kindOf, amountsOfKind}
+use Rattle.rules.specs.Word.{word, kindOf}
 use Rattle.rules.specs.Book.{FinancingTrade, Item, financing, total}
 use Rattle.rules.specs.Run.{Turn, some, runFrom}
 use Rattle.rules.specs.Faults.{financingSetFault}
@@ -15,6 +15,7 @@ use Rattle.rules.specs.Read.{lacks, financingMemberTurn, financingSetAt, withTr
 use Rattle.rules.specs.Weigh.{excessOf}
 use Rattle.rules.proofs.Lists.{total-le-all}
 use Rattle.rules.proofs.Runs.{fine-run}
+use Rattle.laws.proofs.Records.{amounts-at}
 use Rattle.records.specs.Readable.{Readable}
 use Rattle.records.specs.Sums.{itemSums}
 use Rattle.records.specs.declared.ItemStep.{ItemStep}
@@ -93,7 +94,7 @@ module _ (ws : List ℕ) (k : kindOf (word ws 0) ≡ 8) where
         unfolding financingSetTurn lacks behind
         step-is =
             ap (stepOf (word ws 0)) rq ∙ go (tradesOf ws .number)
-            ∙ sym (ap (itemStep bands) (turn-on ws 0 0 (ap amountsOfKind k) (financingSetFault (word ws 0)) behind refl (sym fq ∙ z)))
+            ∙ sym (ap (itemStep bands) (turn-on ws 0 0 (amounts-at _ k) (financingSetFault (word ws 0)) behind refl (sym fq ∙ z)))
           where
             go : (n : ℕ) → stepOf (word ws 0) (weighedTo (tallyFrom noTally (tradesOf ws .records)) n (tradesOf ws .place))
                 ≡ itemStep bands (some (financing (financingSetAt ws (tradesOf ws .records))) n (tradesOf ws .place))
@@ -109,4 +110,4 @@ module _ (ws : List ℕ) (k : kindOf (word ws 0) ≡ 8) where
   pub set-faulty : (bands : Bands) (f : ℕ) → f ≡ financingSetFault (word ws 0) → (f ≡ 0 → ⊥) → item.Refused f 0 ≡ itemStep bands (financingSetTurn ws)
   unfolding financingSetTurn lacks
   set-faulty bands f fq n =
-      ap (λ (x : ℕ). item.Refused x 0) fq ∙ sym (ap (itemStep bands) (turn-fault ws 0 0 (ap amountsOfKind k) (financingSetFault (word ws 0)) _ refl (λ z. n (fq ∙ z))))
+      ap (λ (x : ℕ). item.Refused x 0) fq ∙ sym (ap (itemStep bands) (turn-fault ws 0 0 (amounts-at _ k) (financingSetFault (word ws 0)) _ refl (λ z. n (fq ∙ z))))

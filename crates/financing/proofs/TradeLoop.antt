@@ -6,14 +6,14 @@ use mathlib.Core.List.{List}
 use native.Mathlib.Omega.{arith}
 use lib.Dec.{eqb}
 use lib.ListN.{length}
-use Rattle.rules.specs.Word.{word, kindOf, bitOf, sizeOf, amountsOfKind}
+use Rattle.rules.specs.Word.{word, kindOf, bitOf, sizeOf}
 use Rattle.rules.specs.Book.{FinancingTrade}
 use Rattle.rules.specs.Run.{bad, some, Run, withOne}
 use Rattle.rules.specs.Read.{lacks, stands, lastDaysAt, financingTradeAt, financingTradeTurn, financingMemberTurn}
 use Rattle.rules.proofs.Along.{Along, along-start, along-over, along-bad, along-one}
 use Rattle.records.specs.Cause.{recordCause}
 use Rattle.records.proofs.Words.{record-faulty, record-good}
-use Rattle.laws.proofs.Records.{stands-is, lacks-room}
+use Rattle.laws.proofs.Records.{stands-is, amounts-at, lacks-room}
 use Rattle.financing.specs.declared.tally.FinancingTally.{FinancingTally}
 use Rattle.financing.specs.declared.trades.Weighed.the-variants.{Whole, Refused}
 use Rattle.financing.specs.Weighing.{noTally, settled, tallied, tallyFrom, weighedTo, weighedOf, tradesOf, tallySum, TallyRoomy}
@@ -72,7 +72,7 @@ module _ (ws : List ℕ) (t : FinancingTally) (at : ℕ) (i : AtTrade ws t at) w
         pub trade-stop : (f ≡ 0 → ⊥) → Refused f at ≡ weighedOf noTally (tradesOf ws)
         unfolding tallyFrom financingTradeTurn fault
         trade-stop n = go f n ∙ along-bad (length ws) (financingMemberTurn ws) weighedOf _ t at (i .along) f at
-            (here ∙ record-faulty ws at 7 (ap amountsOfKind (there .1)) fault (some (financingTradeAt ws at) 0) (λ z. n (fault-is ∙ z)) ∙ ap (λ (x : ℕ). bad x at) (sym fault-is))
+            (here ∙ record-faulty ws at 7 (amounts-at _ (there .1)) fault (some (financingTradeAt ws at) 0) (λ z. n (fault-is ∙ z)) ∙ ap (λ (x : ℕ). bad x at) (sym fault-is))
           where
             go : (g : ℕ) → (g ≡ 0 → ⊥) → Refused g at ≡ weighedTo t g at
             go zero m = absurd (m refl)
@@ -82,7 +82,7 @@ module _ (ws : List ℕ) (t : FinancingTally) (at : ℕ) (i : AtTrade ws t at) w
         module _ (z : f ≡ 0) where
           good : (lacks 7 ws at ≡ false) × (financingTradeTurn ws at ≡ some (financingTradeAt ws at) 0 (at + 8))
           unfolding financingTradeTurn fault
-          good = record-good ws at 7 (ap amountsOfKind (there .1)) fault (some (financingTradeAt ws at) 0) (sym fault-is ∙ z)
+          good = record-good ws at 7 (amounts-at _ (there .1)) fault (some (financingTradeAt ws at) 0) (sym fault-is ∙ z)
 
           pub trade-room : at + 8 ≤ length ws
           trade-room = omega (arith, lacks-room 7 ws at (good .0) (there .0))

@@ -4,13 +4,13 @@ use mathlib.Core.Bool.{Bool, true, false, cond, _&&_}
 use mathlib.Core.List.{List, [], _∷_, map}
 use native.Mathlib.Omega.{arith}
 use native.Mathlib.Nat.{mul-le-mul, mul-le-mul-right, le-trans, min-le-left}
-use lib.Dec.{eqb, ltb}
+use lib.Dec.{eqb, leb, ltb}
 use lib.ListN.{getD}
 use Rattle.rules.specs.declared.Bands.{Bands}
 use Rattle.rules.specs.Word.{bitOf, sizeOf, gainOf, lossOf}
 use Rattle.rules.specs.Factors.{factors, factorAt, bandOf, creditFactor, marketFactor, tradeFactor, conversions, conversionAt, conversionOf}
-use Rattle.rules.specs.Book.{Trade, WrittenCredit}
-use Rattle.rules.specs.Weigh.{tradeAddOn, writtenAddOn}
+use Rattle.rules.specs.Book.{Trade, Basket, WrittenCredit}
+use Rattle.rules.specs.Weigh.{tradeAddOn, nthWorst, lastQualifying, basketAddOn, writtenAddOn}
 
 -- ---- amounts
 
@@ -91,6 +91,13 @@ pub trade-add-on : (bands : Bands) (t : Trade) → t .payments < 2 ^ 8 → t .no
 unfolding tradeAddOn
 trade-add-on bands t p n =
     product _ (t .payments) (t .notional) (factor-small bands (t .class) (t .resets) (t .qualifying) (t .days) (t .resetDays)) p n
+
+pub credit-product : (factor notional : ℕ) → factor ≤ 100 → notional < 2 ^ 27 → factor * notional ≤ 100 * 2 ^ 27
+credit-product factor notional f n = mul-le-mul {n₁ = factor} {m₁ = notional} {n₂ = 100} {m₂ = 2 ^ 27} f (omega arith)
+
+pub basket-add-on : (b : Basket) → basketAddOn b ≤ 100 * b .notional
+unfolding basketAddOn
+basket-add-on b = mul-le-mul-right (b .notional) (credit-at-most (leb (nthWorst (b .nth) (b .grades)) lastQualifying))
 
 pub written-add-on : (w : WrittenCredit) → writtenAddOn w ≤ 100 * w .notional
 unfolding writtenAddOn

@@ -6,15 +6,15 @@ use mathlib.Core.List.{List, [], _∷_}
 use native.Mathlib.Omega.{arith}
 use lib.ListN.{length}
 use Rattle.rules.specs.declared.Bands.{Bands}
-use Rattle.rules.specs.Word.{word, kindOf, bitOf}
-use Rattle.rules.specs.Book.{Cover, Member, trade, written, FinancingTrade, total}
+use Rattle.rules.specs.Word.{word, kindOf, bitOf, namesIn}
+use Rattle.rules.specs.Book.{Cover, Member, trade, written, basket, FinancingTrade, total}
 use Rattle.rules.specs.Run.{over, some, Run, runFrom}
-use Rattle.rules.specs.Faults.{tradeFault, writtenFault, coverFault, financingTradeFault}
-use Rattle.rules.specs.Read.{stands, coverAt, coverTurn, writtenAt, withCovers, writtenTurn, tradeAt, tradeTurn, memberTurn, lastDaysAt, financingTradeAt, financingTradeTurn, financingMemberTurn}
+use Rattle.rules.specs.Faults.{tradeFault, basketFault, writtenFault, coverFault, financingTradeFault}
+use Rattle.rules.specs.Read.{stands, coverAt, coverTurn, writtenAt, withCovers, writtenTurn, tradeAt, tradeTurn, gradesAt, basketAt, basketTurn, memberTurn, lastDaysAt, financingTradeAt, financingTradeTurn, financingMemberTurn}
 use Rattle.rules.specs.Weigh.{gainIn, addOnIn, writtenIn, coversIn}
 use Rattle.rules.proofs.Runs.{FineTurn, FineRun, fine-run}
-use Rattle.laws.proofs.Records.{fine-kind, fine-record}
-use Rattle.laws.proofs.FactorBounds.{gain-small, trade-add-on, written-add-on}
+use Rattle.laws.proofs.Records.{amounts-at, fine-kind, fine-record}
+use Rattle.laws.proofs.FactorBounds.{gain-small, trade-add-on, basket-add-on, written-add-on}
 
 abbrev pub perWord : ℕ
 perWord = 2 ^ 41
@@ -63,6 +63,18 @@ module _ (bands : Bands) (ws : List ℕ) (at : ℕ) where
       (some (trade (tradeAt ws at)) 0) l (rw e)
       (λ r z. (omega arith, omega arith, omega (arith, trade-small)))
 
+  basket-small : memberWeight bands (basket (basketAt ws at)) ≤ 3 * perWord
+  unfolding basketAt
+  basket-small = omega (arith, gain-small (word ws (at + 1)), basket-add-on (basketAt ws at))
+
+  fine-basket : at < length ws → kindOf (word ws at) ≡ 11 → FineTurn (length ws) perWord (memberWeight bands) at (basketTurn ws at)
+  unfolding basketTurn
+  fine-basket l e =
+      fine-record perWord (memberWeight bands) ws at (namesIn (word ws at) + 2)
+      (basketFault (word ws at) (word ws (at + 1)) (word ws (at + 2)) (gradesAt ws at))
+      (some (basket (basketAt ws at)) 0) l (amounts-at (word ws at) e)
+      (λ r z. (omega arith, omega arith, omega (arith, basket-small)))
+
   fine-covers : (covers : Run Cover) → FineRun (length ws) perWord coverWeight (at + 6) covers → FineTurn (length ws) perWord (memberWeight bands) at (withCovers ws at covers)
   fine-covers covers r = (omega arith, r .within, omega (arith, r .small, written-small (covers .records)))
 
@@ -77,8 +89,9 @@ module _ (bands : Bands) (ws : List ℕ) (at : ℕ) where
   pub fine-member : at ≤ length ws → FineTurn (length ws) perWord (memberWeight bands) at (memberTurn ws at)
   unfolding memberTurn
   fine-member h =
-      fine-kind perWord (memberWeight bands) ws at 5 (tradeTurn ws at) (cond (stands 6 ws at) (writtenTurn ws at) over) fine-trade
-      (fine-kind perWord (memberWeight bands) ws at 6 (writtenTurn ws at) over fine-written tt)
+      fine-kind perWord (memberWeight bands) ws at 5 (tradeTurn ws at) (cond (stands 6 ws at) (writtenTurn ws at) (cond (stands 11 ws at) (basketTurn ws at) over)) fine-trade
+      (fine-kind perWord (memberWeight bands) ws at 6 (writtenTurn ws at) (cond (stands 11 ws at) (basketTurn ws at) over) fine-written
+      (fine-kind perWord (memberWeight bands) ws at 11 (basketTurn ws at) over fine-basket tt))
 
 -- ---- trades of a financing set
 

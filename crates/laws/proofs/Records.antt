@@ -10,7 +10,7 @@ use borrow.Author.Tests.{lt-ltb, ltb-true, leb-false, eq-eqb, eqb-true}
 use lib.Dec.{leb, ltb}
 use lib.ListN.{length, drop}
 use lib.Seq.{getD-drop}
-use Rattle.rules.specs.Word.{word, kindOf, amountsIn}
+use Rattle.rules.specs.Word.{word, kindOf, amountsOfKind, amountsIn}
 use Rattle.rules.specs.Run.{Turn, bad, sound}
 use Rattle.rules.specs.Read.{lacks, recordThen, stands}
 use Rattle.rules.proofs.Lists.{and-left, and-right, or-left}
@@ -24,6 +24,10 @@ stands-is kind ws at e =
 -- as the kind of its first word tells
 pub stands-there : (ws : List ℕ) (at kind k : ℕ) → at < length ws → k ≡ kindOf (word ws at) → k ≡ kind → stands kind ws at ≡ true
 stands-there ws at kind k h q e = simp (lt-ltb at (length ws) h, ← q, eq-eqb k kind e)
+
+-- how many amounts its first word asks for, by its kind
+pub amounts-at : (w : ℕ) {kind : ℕ} → kindOf w ≡ kind → amountsIn w ≡ amountsOfKind kind w
+amounts-at w e = ap (λ (k : ℕ). amountsOfKind k w) e
 
 -- a part of the words begins with the word at its place
 pub head-word : (ws : List ℕ) (at : ℕ) → word (drop at ws) 0 ≡ word ws at

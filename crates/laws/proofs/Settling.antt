@@ -12,7 +12,7 @@ use lib.ListN.{length, getD, set, length-set}
 use lib.Seq.{getD-set-same, getD-set-other}
 use Rattle.rules.specs.declared.Draw.{Draw}
 use Rattle.rules.specs.declared.Entry.{Entry}
-use Rattle.rules.specs.Book.{Cover, WrittenCredit, Member, trade, written, Item, asset, derivatives, financing, offBalance, Placed, total}
+use Rattle.rules.specs.Book.{Cover, WrittenCredit, Member, trade, written, basket, Item, asset, derivatives, financing, offBalance, Placed, total}
 use Rattle.rules.specs.Weigh.{writtenIn, coversIn}
 use Rattle.rules.specs.Register.{blank, drawsFrom, drawsOf, drawsIn, drawsOver, unfitFor, drawFault, drawnFrom, drawn, settled, ifFit, settle}
 use Rattle.rules.proofs.Lists.{Every, or-left, or-right}
@@ -84,6 +84,7 @@ members-within begin (written w ∷ ms) e =
     let here = covers-within begin (w .notional - w .lossTaken) w (w .covers) (every-left _ (drawsOf begin ms) e) in
     let rest = members-within begin ms (every-right (drawsFrom begin (w .notional - w .lossTaken) w (w .covers)) _ e) in
     omega arith
+members-within begin (basket b ∷ ms) e = omega (arith, members-within begin ms e)
 
 -- a set's covers are within its written notional less loss
 abbrev pub CoversWithin : Item → Type 0

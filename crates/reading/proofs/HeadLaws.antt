@@ -12,6 +12,7 @@ use Rattle.rules.specs.Word.{word, kindOf, amountsOfKind}
 use Rattle.rules.specs.Book.{Item}
 use Rattle.rules.specs.Run.{Turn, bad}
 use Rattle.rules.specs.Read.{lacks, recordThen, derivativeSetTurn, itemOf, itemTurn}
+use Rattle.laws.proofs.Records.{amounts-at}
 use Rattle.records.proofs.Words.{record-faulty}
 use Rattle.derivatives.specs.Words.{setCause}
 use Rattle.reading.specs.declared.Admission.the-variants.{Refused}
@@ -24,9 +25,9 @@ use Rattle.reading.proofs.ItemLaws.{partAt, from-is, Met, kind-here, of
 
 module _ (bands : Bands) {ws : List ℕ} {s : Sums} {at : ℕ} (number : ℕ) (n : number ≡ 0 → ⊥) where
   pub record-halts : {k : ℕ} → Met ws s at k → (k ≡ 15 → ⊥) → (f : ℕ) (next : ℕ → Turn Item) → itemOf (drop at ws) ≡ recordThen (drop at ws) 0 f next
-      → number ≡ cond (lacks (amountsOfKind k) (drop at ws) 0) 6 f → fromItem bands ws s at ≡ endsAt (Refused number at)
+      → number ≡ cond (lacks (amountsOfKind k (word (drop at ws) 0)) (drop at ws) 0) 6 f → fromItem bands ws s at ≡ endsAt (Refused number at)
   record-halts {k} m ke f next is q =
-      halted bands m ke number n (is ∙ record-faulty (drop at ws) 0 (amountsOfKind k) (ap amountsOfKind (kind-here m)) f next (λ z. n (q ∙ z)) ∙ ap (λ (x : ℕ). bad x 0) (sym q))
+      halted bands m ke number n (is ∙ record-faulty (drop at ws) 0 (amountsOfKind k (word (drop at ws) 0)) (amounts-at _ (kind-here m)) f next (λ z. n (q ∙ z)) ∙ ap (λ (x : ℕ). bad x 0) (sym q))
 
   pub set-halts : Met ws s at 4 → number ≡ setCause (partAt ws at) → fromItem bands ws s at ≡ endsAt (Refused number at)
   unfolding derivativeSetTurn

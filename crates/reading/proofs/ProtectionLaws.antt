@@ -7,7 +7,7 @@ use native.Mathlib.Omega.{arith}
 use native.Mathlib.Numerals.{sub-one}
 use borrow.Author.Tests.{le-leb, lt-leb, eq-eqb, ne-eqb}
 use lib.ListN.{length}
-use Rattle.rules.specs.Word.{word, kindOf, amountsOfKind}
+use Rattle.rules.specs.Word.{word, kindOf}
 use Rattle.rules.specs.Book.{Protection}
 use Rattle.rules.specs.Faults.{protectionFault}
 use Rattle.rules.specs.Run.{Turn, over, some, Run, thenRun, runFrom}
@@ -17,6 +17,7 @@ use Rattle.laws.proofs.Protections.{Filled, protection-filled}
 use Rattle.laws.proofs.Protections
 use Rattle.laws.proofs.MemberBounds.{perWord}
 use Rattle.laws.proofs.ItemBounds.{nothing, fine-protection}
+use Rattle.laws.proofs.Records.{amounts-at}
 use Rattle.records.specs.Step.{protectionCause}
 use Rattle.records.proofs.Words.{record-faulty, record-good}
 use Rattle.reading.specs.declared.protections.Protections.the-variants.{Upto, Refused}
@@ -40,11 +41,11 @@ module _ (ws : List ℕ) (at : ℕ) where
 
     pub due-fault : (f ≡ 0 → ⊥) → Refused f at ≡ protectionStep (protectionTurn ws at)
     unfolding protectionCause
-    due-fault n = rw fq (sym (ap protectionStep (is-record ∙ record-faulty ws at 3 (ap amountsOfKind (sym kq ∙ ke)) _ _ (λ z. n (fq ∙ z)))))
+    due-fault n = rw fq (sym (ap protectionStep (is-record ∙ record-faulty ws at 3 (amounts-at _ (sym kq ∙ ke)) _ _ (λ z. n (fq ∙ z)))))
 
     pub due-good : f ≡ 0 → Upto (at + 4) ≡ protectionStep (protectionTurn ws at)
     unfolding protectionCause
-    due-good z = sym (ap protectionStep (is-record ∙ record-good ws at 3 (ap amountsOfKind (sym kq ∙ ke)) _ _ (sym fq ∙ z) .1))
+    due-good z = sym (ap protectionStep (is-record ∙ record-good ws at 3 (amounts-at _ (sym kq ∙ ke)) _ _ (sym fq ∙ z) .1))
 
 -- ---- all of them
 

@@ -15,6 +15,7 @@ use Rattle.rules.specs.Read.{lacks, recordThen, stands, itemOf, placed}
 use Rattle.rules.specs.Register.{drawsIn}
 use Rattle.rules.specs.Book.{Item}
 use Rattle.rules.proofs.Lists.{and-left, and-right}
+use Rattle.laws.proofs.Records.{amounts-at}
 use Rattle.records.proofs.Words.{record-good}
 use Rattle.records.specs.Step.{plusItem, soundAt}
 use Rattle.reading.specs.Steps.{SumsUpTo}
@@ -52,7 +53,7 @@ module _ {ws : List ℕ} {s : Sums} {from : ℕ} {t : Sums} {at : ℕ} (r : Runn
 module _ (k : ℕ) (ke : k ≡ 15 → ⊥) (fault : List ℕ → ℕ) (item : List ℕ → Item) (plain : (begin : ℕ) (p : List ℕ) → drawsIn begin (item p) ≡ [])
     (is : (p : List ℕ) → kindOf (word p 0) ≡ k → itemOf p ≡ recordThen p 0 (fault p) (some (item p) 0)) where
   abbrev causeOf : List ℕ → ℕ
-  causeOf p = cond (lacks (amountsOfKind k) p 0) 6 (fault p)
+  causeOf p = cond (lacks (amountsOfKind k (word p 0)) p 0) 6 (fault p)
 
   module _ {ws : List ℕ} {t : Sums} {at : ℕ} (f : SumsUpTo ws t at) where
     pub sound-met : soundAt k causeOf ws at ≡ true → Met ws t at k
@@ -62,9 +63,9 @@ module _ (k : ℕ) (ke : k ≡ 15 → ⊥) (fault : List ℕ → ℕ) (item : Li
     sound-cause e = eqb-true _ _ (and-right (stands k ws at) _ e)
 
     -- one item more
-    pub one-more : soundAt k causeOf ws at ≡ true → (bands : Bands) → Onward bands ws t at (plusItem bands t (item (drop at ws))) (at + (0 + suc (amountsOfKind k)))
+    pub one-more : soundAt k causeOf ws at ≡ true → (bands : Bands) → Onward bands ws t at (plusItem bands t (item (drop at ws))) (at + (0 + suc (amountsOfKind k (word (drop at ws) 0))))
     one-more e bands =
         let m = sound-met e in
-        onward bands ws t at f _ (at + (0 + suc (amountsOfKind k)))
-        (turn-here m ke ∙ ap (placed at) (is (drop at ws) (kind-here m) ∙ record-good (drop at ws) 0 (amountsOfKind k) (ap amountsOfKind (kind-here m)) (fault (drop at ws)) (some (item (drop at ws)) 0) (sound-cause e) .1))
+        onward bands ws t at f _ (at + (0 + suc (amountsOfKind k (word (drop at ws) 0))))
+        (turn-here m ke ∙ ap (placed at) (is (drop at ws) (kind-here m) ∙ record-good (drop at ws) 0 (amountsOfKind k (word (drop at ws) 0)) (amounts-at _ (kind-here m)) (fault (drop at ws)) (some (item (drop at ws)) 0) (sound-cause e) .1))
         (plain at (drop at ws))

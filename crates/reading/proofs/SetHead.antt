@@ -6,12 +6,11 @@ use native.Mathlib.Omega.{arith}
 use lib.ListN.{length, drop, length-drop}
 use Rattle.rules.specs.declared.Bands.{Bands}
 use Rattle.rules.specs.declared.Sums.{Sums}
-use Rattle.rules.specs.Word.{amountsOfKind}
 use Rattle.rules.specs.Book.{Member}
 use Rattle.rules.specs.Run.{Run, runFrom}
 use Rattle.rules.specs.Read.{memberTurn, derivativeSetAt, withMembers, derivativeSetTurn, placed, itemTurn}
 use Rattle.rules.specs.Register.{drawsOf}
-use Rattle.laws.proofs.Records.{lacks-room}
+use Rattle.laws.proofs.Records.{lacks-room, amounts-at}
 use Rattle.records.specs.Sums.{plus}
 use Rattle.records.proofs.Words.{record-good}
 use Rattle.derivatives.specs.Words.{setCause}
@@ -42,7 +41,7 @@ unfolding derivativeSetTurn fromSet setAhead fromMember
 set-opens bands {ws} {s} {at} m e =
     let part = drop at ws in
     let r : Run Member = runFrom (memberTurn part) (suc (length part)) 4 in
-    let g = record-good part 0 3 (ap amountsOfKind (kind-here m)) _ (λ (next : ℕ). withMembers part (runFrom (memberTurn part) (suc (length part)) next)) e in
+    let g = record-good part 0 3 (amounts-at _ (kind-here m)) _ (λ (next : ℕ). withMembers part (runFrom (memberTurn part) (suc (length part)) next)) e in
     let n = length-drop at ws in
     let l = lacks-room 3 part 0 (g .0) (omega (arith, m .here)) in (
       members-then bands ws s at (m .sums-up-to .readable .within) (r .records) (r .number) (r .place) (turn-here m (λ z. omega arith) ∙ ap (placed at) (of-kind-4 part (kind-here m) ∙ g .1)),

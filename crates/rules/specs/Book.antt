@@ -39,6 +39,15 @@ pub record Trade : Type 0 where
   pub days : ℕ
   pub resetDays : ℕ
 
+-- kind 11, a basket that pays at the n-th default among its names (request A.3): their grades, of which a larger one is worse. The value is a
+-- gain less a loss.
+pub record Basket : Type 0 where
+  pub nth : ℕ
+  pub gain : ℕ
+  pub loss : ℕ
+  pub notional : ℕ
+  pub grades : List ℕ
+
 -- kind 7: the protection that it names, and how much of it. `at` is where the record stands in the words of its set.
 pub record Cover : Type 0 where
   pub at : ℕ
@@ -63,6 +72,7 @@ pub record WrittenCredit : Type 0 where
 pub data Member : Type 0 where
   trade : Trade → Member
   written : WrittenCredit → Member
+  basket : Basket → Member
 
 -- kind 4 with its members. The marks are bits 0 to 5 (paragraphs 21, 25 and 27).
 pub record DerivativeSet : Type 0 where

@@ -1,9 +1,10 @@
--- Document 01, "When a book is turned away": the causes 7 to 10 of each kind of record, in the table's order, by its words.
+-- Document 01, "When a book is turned away": the causes 7 to 10, and 17 of request A.3, of each kind of record, in the table's order, by its words.
 -- A record that none of them fits has the number 0. Assumes nothing.
 use Prim.Native.Nat.{ℕ, _+_, _^_}
-use mathlib.Core.Bool.{Bool, not, _||_, _&&_, cond}
+use mathlib.Core.Bool.{Bool, false, not, _||_, _&&_, cond}
+use mathlib.Core.List.{List, [], _∷_}
 use lib.Dec.{eqb, leb, ltb}
-use Rattle.rules.specs.Word.{payloadOf, fieldOf, bitOf, sizeOf, minusZero, faultyAmount, faultyDays}
+use Rattle.rules.specs.Word.{payloadOf, fieldOf, bitOf, sizeOf, minusZero, faultyAmount, faultyDays, faultyGrade, nthIn, namesIn}
 
 -- a number if its test holds, else the next cause
 unfoldable pub cause : ℕ → Bool → ℕ → ℕ
@@ -51,6 +52,23 @@ writtenFault w value notional lossTaken days premiums =
     cause 7 (leb (2 ^ 23) (payloadOf w))
     (cause 8 (minusZero value || faultyAmount notional || faultyAmount lossTaken || faultyDays days || faultyAmount premiums)
     (cause 9 (ltb (sizeOf notional) (sizeOf lossTaken))
+    0))
+
+-- of kind 11: "n or m outside 1 to 32, n above m"
+abbrev pub namesFault : (nth names : ℕ) → Bool
+namesFault nth names = ltb nth 1 || ltb 32 nth || ltb names 1 || ltb 32 names || ltb names nth
+
+-- one word or more
+abbrev pub anyOf : (ℕ → Bool) → List ℕ → Bool
+anyOf faulty [] = false
+anyOf faulty (w ∷ ws) = faulty w || anyOf faulty ws
+
+-- kind 11 (request A.3): 17 is "last among that record's causes"
+unfoldable pub basketFault : (w value notional : ℕ) (grades : List ℕ) → ℕ
+basketFault w value notional grades =
+    cause 7 (leb (2 ^ 12) (payloadOf w))
+    (cause 8 (minusZero value || faultyAmount notional || anyOf faultyAmount grades)
+    (cause 17 (namesFault (nthIn w) (namesIn w) || anyOf faultyGrade grades)
     0))
 
 -- kind 7: "Amount, at least 1". The causes 11 to 13 are in Register.

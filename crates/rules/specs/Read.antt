@@ -1,15 +1,15 @@
--- Document 01, "Records": how a book is read out of its words, up to the first record that is faulty by itself (5 to 10 and 14).
+-- Document 01, "Records": how a book is read out of its words, up to the first record that is faulty by itself (5 to 10, 14 and 17).
 -- Assumes nothing.
 use Prim.Native.Nat.{ℕ, zero, suc, _+_, _-_}
 use mathlib.Core.Bool.{Bool, false, not, _||_, _&&_, cond}
-use mathlib.Core.List.{List}
+use mathlib.Core.List.{List, map}
 use lib.Dec.{eqb, leb, ltb}
-use lib.ListN.{length, drop}
-use Rattle.rules.specs.Word.{word, kindOf, payloadOf, fieldOf, bitOf, sizeOf, gainOf, lossOf, minusZero, amountsIn}
+use lib.ListN.{length, take, drop}
+use Rattle.rules.specs.Word.{word, kindOf, payloadOf, fieldOf, bitOf, sizeOf, gainOf, lossOf, minusZero, nthIn, namesIn, amountsIn}
 use Rattle.rules.specs.Calendar.{lastDate, bandsOf}
-use Rattle.rules.specs.Book.{Head, Protection, Asset, Trade, Cover, WrittenCredit, Member, trade, written, DerivativeSet, FinancingTrade, FinancingSet, OffBalance, Item, asset, derivatives, financing, offBalance, Placed}
+use Rattle.rules.specs.Book.{Head, Protection, Asset, Trade, Basket, Cover, WrittenCredit, Member, trade, written, basket, DerivativeSet, FinancingTrade, FinancingSet, OffBalance, Item, asset, derivatives, financing, offBalance, Placed}
 use Rattle.rules.specs.Run.{Turn, over, bad, some, Run, ended, runFrom, sound}
-use Rattle.rules.specs.Faults.{cause, protectionFault, assetFault, derivativeSetFault, tradeFault, writtenFault, coverFault, financingSetFault, financingTradeFault, offBalanceFault}
+use Rattle.rules.specs.Faults.{cause, protectionFault, assetFault, derivativeSetFault, tradeFault, basketFault, writtenFault, coverFault, financingSetFault, financingTradeFault, offBalanceFault}
 
 -- ---- the head: its word, Tier 1 and the reporting date (request A.2)
 
@@ -139,9 +139,26 @@ tradeTurn ws at =
     recordThen ws at (tradeFault (word ws at) (word ws (at + 1)) (word ws (at + 2)) (word ws (at + 3)) (word ws (at + 4)))
     (some (trade (tradeAt ws at)) 0)
 
--- kind 4 with its trades and written credits
+-- kind 11: "value (may be negative), effective notional, and m amounts: each a quality grade" (request A.3). The words of the grades:
+abbrev pub gradesAt : List ℕ → ℕ → List ℕ
+gradesAt ws at = take (namesIn (word ws at)) (drop (at + 3) ws)
+
+unfoldable pub basketAt : List ℕ → ℕ → Basket
+basketAt ws at = record {
+  nth = nthIn (word ws at);
+  gain = gainOf (word ws (at + 1));
+  loss = lossOf (word ws (at + 1));
+  notional = sizeOf (word ws (at + 2));
+  grades = map sizeOf (gradesAt ws at);
+}
+
+unfoldable pub basketTurn : List ℕ → ℕ → Turn Member
+basketTurn ws at =
+    recordThen ws at (basketFault (word ws at) (word ws (at + 1)) (word ws (at + 2)) (gradesAt ws at)) (some (basket (basketAt ws at)) 0)
+
+-- kind 4 with its trades, written credits and baskets
 unfoldable pub memberTurn : List ℕ → ℕ → Turn Member
-memberTurn ws at = cond (stands 5 ws at) (tradeTurn ws at) (cond (stands 6 ws at) (writtenTurn ws at) over)
+memberTurn ws at = cond (stands 5 ws at) (tradeTurn ws at) (cond (stands 6 ws at) (writtenTurn ws at) (cond (stands 11 ws at) (basketTurn ws at) over))
 
 unfoldable pub derivativeSetAt : List ℕ → List Member → DerivativeSet
 derivativeSetAt ws members = record {

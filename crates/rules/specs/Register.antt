@@ -7,7 +7,7 @@ use lib.Dec.{eqb, leb, ltb}
 use lib.ListN.{length, getD, set}
 use Rattle.rules.specs.declared.Draw.{Draw}
 use Rattle.rules.specs.declared.Entry.{Entry}
-use Rattle.rules.specs.Book.{Protection, Cover, WrittenCredit, Member, trade, written, Item, asset, derivatives, financing, offBalance, Placed}
+use Rattle.rules.specs.Book.{Protection, Cover, WrittenCredit, Member, trade, written, basket, Item, asset, derivatives, financing, offBalance, Placed}
 use Rattle.rules.specs.Faults.{cause}
 
 -- the entry "all zero"
@@ -34,6 +34,7 @@ unfoldable pub drawsOf : ℕ → List Member → List Draw
 drawsOf begin [] = []
 drawsOf begin (trade t ∷ ms) = drawsOf begin ms
 drawsOf begin (written w ∷ ms) = drawsFrom begin (w .notional - w .lossTaken) w (w .covers) ++ drawsOf begin ms
+drawsOf begin (basket b ∷ ms) = drawsOf begin ms
 
 abbrev pub drawsIn : ℕ → Item → List Draw
 drawsIn begin (asset a) = []

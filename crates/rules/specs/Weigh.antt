@@ -3,17 +3,38 @@
 use Prim.Native.Nat.{ℕ, zero, suc, _+_, _-_, _*_, min, max}
 use mathlib.Core.Bool.{Bool, _&&_, cond}
 use mathlib.Core.List.{List, [], _∷_}
-use lib.Dec.{eqb}
+use lib.Dec.{eqb, leb}
+use lib.ListN.{getD}
 use Rattle.rules.specs.declared.Bands.{Bands}
 use Rattle.rules.specs.Factors.{creditFactor, tradeFactor}
 use Rattle.rules.specs.Weighted.{weightedOf}
-use Rattle.rules.specs.Book.{Trade, Cover, WrittenCredit, Member, trade, written, DerivativeSet, FinancingTrade, FinancingSet, total}
+use Rattle.rules.specs.Book.{Trade, Basket, Cover, WrittenCredit, Member, trade, written, basket, DerivativeSet, FinancingTrade, FinancingSet, total}
 
--- ---- add-ons (annex, paragraphs 1 to 3)
+-- ---- add-ons (annex, paragraphs 1 to 4)
 
 -- "That figure is multiplied by n"
 unfoldable pub tradeAddOn : Bands → Trade → ℕ
 tradeAddOn bands t = tradeFactor bands (t .class) (t .resets) (t .qualifying) (t .days) (t .resetDays) * t .payments * t .notional
+
+-- grades from the worst on, which is the largest; "Equal grades count separately"
+abbrev pub insertDown : ℕ → List ℕ → List ℕ
+insertDown g [] = g ∷ []
+insertDown g (h ∷ hs) = cond (leb h g) (g ∷ h ∷ hs) (h ∷ insertDown g hs)
+
+unfoldable pub sortedDown : List ℕ → List ℕ
+sortedDown [] = []
+sortedDown (g ∷ gs) = insertDown g (sortedDown gs)
+
+abbrev pub nthWorst : ℕ → List ℕ → ℕ
+nthWorst nth grades = getD (sortedDown grades) (nth - 1) 0
+
+-- "grades 0 to 9 qualify"
+abbrev pub lastQualifying : ℕ
+lastQualifying = 9
+
+-- "The nth worst grade decides the factor, 50 or 100 per thousand" (annex, paragraph 4; request A.3)
+unfoldable pub basketAddOn : Basket → ℕ
+basketAddOn b = creditFactor (leb (nthWorst (b .nth) (b .grades)) lastQualifying) * b .notional
 
 -- "Written total return swap: factor times notional. Written default swap: 0 without close-out, otherwise the lesser of that product
 -- and 1,000 times unpaid premiums."
@@ -45,18 +66,22 @@ pub record Tally : Type 0 where
 abbrev pub gainIn : Member → ℕ
 gainIn (trade t) = t .gain
 gainIn (written w) = w .gain
+gainIn (basket b) = b .gain
 
 abbrev pub lossIn : Member → ℕ
 lossIn (trade t) = t .loss
 lossIn (written w) = w .loss
+lossIn (basket b) = b .loss
 
 abbrev pub addOnIn : Bands → Member → ℕ
 addOnIn bands (trade t) = tradeAddOn bands t
 addOnIn bands (written w) = writtenAddOn w
+addOnIn bands (basket b) = basketAddOn b
 
 abbrev pub uncoveredIn : Member → ℕ
 uncoveredIn (trade t) = 0
 uncoveredIn (written w) = uncoveredAddOn w
+uncoveredIn (basket b) = 0
 
 unfoldable pub tallyOf : Bands → List Member → Tally
 tallyOf bands members = record {
@@ -86,10 +111,12 @@ weightedIn s t x = cond (s .netting) (weightedOf x (t .gains) (netOf t)) x
 abbrev pub writtenIn : Member → ℕ
 writtenIn (trade t) = 0
 writtenIn (written w) = w .notional - w .lossTaken
+writtenIn (basket b) = 0
 
 abbrev pub coversIn : Member → ℕ
 coversIn (trade t) = 0
 coversIn (written w) = coveredOf w
+coversIn (basket b) = 0
 
 -- ---- securities financing (paragraphs 33 to 37)
 

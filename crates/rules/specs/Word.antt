@@ -1,5 +1,5 @@
 -- Document 01, "Words of the book": a word and its parts. Assumes nothing.
-use Prim.Native.Nat.{ℕ, _/_, _%_, _^_}
+use Prim.Native.Nat.{ℕ, _+_, _/_, _%_, _^_}
 use mathlib.Core.Bool.{Bool, cond}
 use mathlib.Core.List.{List, [], _∷_}
 use lib.Dec.{eqb, leb, ltb}
@@ -49,14 +49,25 @@ faultyAmount w = leb (2 ^ 27) (payloadOf w)
 abbrev pub faultyDays : ℕ → Bool
 faultyDays w = ltb 65535 (payloadOf w)
 
+-- "a quality grade 0 to 31": the negative amounts have larger payloads too (request A.3)
+abbrev pub faultyGrade : ℕ → Bool
+faultyGrade w = ltb 31 (payloadOf w)
+
 -- ---- records: "A record is a word of its kind, then its amounts"
 
--- how many amounts follow the head word of a record, by its kind from 0 on
-abbrev pub amountsOfKind : ℕ → ℕ
-amountsOfKind kind = getD (0 ∷ 2 ∷ 3 ∷ 3 ∷ 3 ∷ 4 ∷ 5 ∷ 1 ∷ 0 ∷ 7 ∷ 1 ∷ []) kind 0
+-- of the head word of a basket: "bits 0-5 n, bits 6-11 the count m of names" (request A.3)
+abbrev pub nthIn : ℕ → ℕ
+nthIn w = fieldOf 0 6 w
+
+abbrev pub namesIn : ℕ → ℕ
+namesIn w = fieldOf 6 6 w
+
+-- how many amounts follow the head word of a record, by its kind from 0 on; a basket, kind 11, has a grade for each name besides its two
+abbrev pub amountsOfKind : (kind w : ℕ) → ℕ
+amountsOfKind kind w = getD (0 ∷ 2 ∷ 3 ∷ 3 ∷ 3 ∷ 4 ∷ 5 ∷ 1 ∷ 0 ∷ 7 ∷ 1 ∷ (namesIn w + 2) ∷ []) kind 0
 
 abbrev pub amountsIn : ℕ → ℕ
-amountsIn w = amountsOfKind (kindOf w)
+amountsIn w = amountsOfKind (kindOf w) w
 
 -- how many of a word's lowest bits are recognition marks, by its kind alone: one of an asset, six of a derivative set, one of a
 -- financing set and one of a financing trade

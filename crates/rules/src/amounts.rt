@@ -18,3 +18,5 @@ pub const FINANCING_SET: usize = 0;
 pub const FINANCING_TRADE: usize = 7;
 
 pub const OFF_BALANCE: usize = 1;
+// Besides the grades of its names.
+pub const BASKET: usize = 2;

@@ -30,3 +30,5 @@ pub const COVER_BEYOND: u32 = 13;
 pub const END_FAULTY: u32 = 14;
 
 pub const DATE_FAULTY: u32 = 16;
+
+pub const BASKET_FAULTY: u32 = 17;

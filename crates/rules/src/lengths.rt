@@ -20,3 +20,5 @@ pub const FINANCING_SET: usize = 1 + amounts::FINANCING_SET;
 pub const FINANCING_TRADE: usize = 1 + amounts::FINANCING_TRADE;
 
 pub const OFF_BALANCE: usize = 1 + amounts::OFF_BALANCE;
+// Besides the grades of its names.
+pub const BASKET: usize = 1 + amounts::BASKET;

@@ -88,3 +88,13 @@ pub const OFF_BALANCE_COMMITTED_BITS: u32 = 4;
 pub const OFF_BALANCE_COMMITTED_LAST: u32 = 11;
 
 pub const OFF_BALANCE_END: u32 = 1 << 8;
+
+pub const BASKET_NTH: u32 = 0;
+
+pub const BASKET_NTH_BITS: u32 = 6;
+
+pub const BASKET_NAMES: u32 = 6;
+
+pub const BASKET_NAMES_BITS: u32 = 6;
+
+pub const BASKET_END: u32 = 1 << 12;

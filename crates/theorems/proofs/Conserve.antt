@@ -6,7 +6,7 @@ use mathlib.Core.List.{List, [], _∷_, map}
 use native.Mathlib.Omega.{arith}
 use lib.ListN.{length, getD, List·getD-map}
 use Rattle.rules.specs.declared.Entry.{Entry}
-use Rattle.rules.specs.Book.{Cover, WrittenCredit, Member, trade, written, Item, asset, derivatives, financing, offBalance, Placed, total}
+use Rattle.rules.specs.Book.{Cover, WrittenCredit, Member, trade, written, basket, Item, asset, derivatives, financing, offBalance, Placed, total}
 use Rattle.rules.specs.Read.{protectionsOf, itemsOf}
 use Rattle.rules.specs.Register.{blank, available, entryOf, drawsFrom, drawsOf, drawsIn, drawsOver}
 use Rattle.rules.specs.Rows.{sumOver}
@@ -32,6 +32,7 @@ module _ (i : ℕ) where
   of-members begin (written w ∷ ms) =
       let here = drawsFrom begin (w .notional - w .lossTaken) w (w .covers) in
       omega (arith, total-append (drawnAt i) here (drawsOf begin ms), of-credit begin (w .notional - w .lossTaken) w (w .covers), of-members begin ms)
+  of-members begin (basket b ∷ ms) = omega (arith, of-members begin ms)
 
   of-item : (begin : ℕ) (x : Item) → total (drawnAt i) (drawsIn begin x) ≡ drawnOf i x
   of-item begin (asset a) = refl

@@ -8,7 +8,7 @@ use lib.IntN.{pos}
 use lib.ListN.{length, getD}
 use lib.Signed.{mag}
 use Rattle.rules.specs.declared.Entry.{Entry}
-use Rattle.rules.specs.Book.{Protection, Cover, Member, trade, written, Item, asset, derivatives, financing, offBalance, Placed, total}
+use Rattle.rules.specs.Book.{Protection, Cover, Member, trade, written, basket, Item, asset, derivatives, financing, offBalance, Placed, total}
 use Rattle.rules.specs.Read.{headOf, protectionsOf}
 use Rattle.rules.specs.Rows.{sumOver, sumsOf, rowsOf}
 use Rattle.rules.specs.Register.{blank, available}
@@ -37,6 +37,7 @@ drawnBy protection c = cond (eqb (c .protection) protection) (c .amount) 0
 abbrev pub drawnIn : ℕ → Member → ℕ
 drawnIn protection (trade t) = 0
 drawnIn protection (written w) = total (drawnBy protection) (w .covers)
+drawnIn protection (basket b) = 0
 
 abbrev pub drawnOf : ℕ → Item → ℕ
 drawnOf protection (asset a) = 0

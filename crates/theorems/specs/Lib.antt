@@ -1,3 +1,4 @@
 pub mod Samples
 pub mod Heads
+pub mod Baskets
 pub mod Claims

@@ -23,7 +23,7 @@ abbrev pub sampleDate : ℕ
 sampleDate = 35124
 
 -- a body between the head and the end word
-abbrev bookOf : (protections tier1 : ℕ) → List ℕ → List ℕ
+abbrev pub bookOf : (protections tier1 : ℕ) → List ℕ → List ℕ
 bookOf protections tier1 body = headWord 1 protections ∷ tier1 ∷ sampleDate ∷ (body ++ (headWord 15 (firstRecord + length body) ∷ []))
 
 -- an asset of which all is exposure
@@ -31,7 +31,7 @@ abbrev assetOf : ℕ → List ℕ
 assetOf carrying = headWord 2 0 ∷ carrying ∷ 0 ∷ 0 ∷ []
 
 -- a derivative set by its marks and the cash margin received
-abbrev setOf : (marks received : ℕ) → List ℕ
+abbrev pub setOf : (marks received : ℕ) → List ℕ
 setOf marks received = headWord 4 marks ∷ received ∷ 0 ∷ 0 ∷ []
 
 -- a trade with one principal payment; with bit 11 it resets
@@ -42,14 +42,14 @@ abbrev resettingOf : (class value notional days resetDays : ℕ) → List ℕ
 resettingOf class value notional days resetDays = headWord 5 (class + 1 * 2 ^ 3 + 2 ^ 11) ∷ value ∷ notional ∷ days ∷ resetDays ∷ []
 
 -- a financing set by its marks, and a trade by its mark and amounts
-abbrev financingOf : (marks : ℕ) → List ℕ
+abbrev pub financingOf : (marks : ℕ) → List ℕ
 financingOf marks = headWord 8 marks ∷ []
 
 abbrev financingTradeOf : (mark asset receivable payable lent received days : ℕ) → List ℕ
 financingTradeOf mark asset receivable payable lent received days = headWord 9 mark ∷ asset ∷ 0 ∷ receivable ∷ payable ∷ lent ∷ received ∷ days ∷ []
 
 -- the sold default swap of the samples: entity 1, rank 0, qualifying, with a close-out clause, 100 days
-abbrev soldSwap : List ℕ
+abbrev pub soldSwap : List ℕ
 soldSwap = headWord 6 (1 + 2 ^ 20 + 2 ^ 22) ∷ 0 ∷ 100 ∷ 0 ∷ 100 ∷ 3 ∷ []
 
 -- ---- a sample and what is listed of it
@@ -80,7 +80,7 @@ currencies marks received first second = bookOf 0 0 (setOf marks received ++ tra
 abbrev lending : ℕ → List ℕ
 lending mark = bookOf 0 0 (financingOf mark ++ financingTradeOf 0 0 0 0 100 90 1 ++ financingTradeOf 0 0 0 0 50 70 1)
 
-abbrev sample : List ℕ → List Figure → Sample
+abbrev pub sample : List ℕ → List Figure → Sample
 sample book listed = record { book = book; listed = listed }
 
 unfoldable pub samples : List Sample
@@ -144,6 +144,9 @@ dirtyRows = replicate 23 (pos 7)
 abbrev pub dirtyRegister : List Entry
 dirtyRegister = replicate 2 (record { entity = 9; rank = 9; days = 9; left = 9 })
 
-pub record AllSamples : Type 0 where
-  pub accepted : map (numberOf dirtyRows dirtyRegister) samples ≡ replicate (length samples) 0
-  pub given-as-listed : map (filed dirtyRows dirtyRegister) samples ≡ samples
+pub record AsListed (some : List Sample) : Type 0 where
+  pub accepted : map (numberOf dirtyRows dirtyRegister) some ≡ replicate (length some) 0
+  pub given-as-listed : map (filed dirtyRows dirtyRegister) some ≡ some
+
+abbrev pub AllSamples : Type 0
+AllSamples = AsListed samples

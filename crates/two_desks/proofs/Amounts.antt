@@ -1,5 +1,5 @@
 -- Two books that differ in marks at most: the amounts behind a place are the same, and a record there is read alike. Assumes nothing.
-use Prim.Native.Nat.{ℕ, zero, suc, _+_, _-_, _<_}
+use Prim.Native.Nat.{ℕ, zero, suc, _+_, _-_, min, _≤_, _<_}
 use mathlib.Core.Path.{_≡_, refl, sym, _∙_, ap, subst, subst₂}
 use mathlib.Core.Bool.{Bool, true, false, not, _||_, cond}
 use mathlib.Core.List.{List}
@@ -7,8 +7,8 @@ use native.Mathlib.Omega.{arith}
 use native.Mathlib.Decide.{ℕ-discrete}
 use borrow.Author.Tests.{eqb-true, not-false}
 use lib.Dec.{leb, ltb, eqb}
-use lib.ListN.{length, drop, length-drop}
-use lib.Seq.{getD-drop}
+use lib.ListN.{length, take, drop, getD, length-take, length-drop}
+use lib.Seq.{getD-take, getD-drop, ext-getD}
 use Rattle.rules.specs.Word.{word, kindOf, sizeOf, amountsOfKind, amountsIn, marksOfKind}
 use Rattle.rules.specs.Run.{Turn, over, bad, some, sound}
 use Rattle.rules.specs.Read.{lacks, recordThen, stands, lastDaysAt}
@@ -16,6 +16,7 @@ use Rattle.rules.specs.TwoDesks.{MoreMarks, MoreRecognised}
 use Rattle.rules.proofs.Lists.{or-left, or-right, and-right}
 use Rattle.rules.proofs.Runs.{Turns, sounds, choices}
 use Rattle.rules.proofs.Runs
+use Rattle.laws.proofs.Records.{amounts-at}
 use Rattle.two_desks.proofs.Marks.{kind-same, amounts-in-same, plain-kind}
 
 -- what begins at a place of the one begins there in the other
@@ -47,6 +48,22 @@ module _ (xs ys : List ℕ) (l : MoreRecognised xs ys) where
       go (yes p) r = rw p (word-same (at + suc n) 0 here refl)
       go (no p) r = r (omega arith)
 
+  -- a stretch of the amounts behind a place
+  pub amounts-same : (n at from count : ℕ) → lacks n xs at ≡ false → at < from → from + count ≤ suc (at + n) → take count (drop from xs) ≡ take count (drop from ys)
+  amounts-same n at from count e h m =
+      ext-getD 0 _ _ same-length
+      (λ i l.
+      let a : i < count = omega (arith, l, length-take count (drop from xs)) in
+      let is : (zs : List ℕ) → getD (take count (drop from zs)) i 0 ≡ word zs (at + suc (from + i - suc at))
+      = λ zs. getD-take count (drop from zs) i 0 a ∙ getD-drop from zs i 0 ∙ ap (word zs) (omega arith) in
+      is xs ∙ amount-same n at e (from + i - suc at) (omega arith) ∙ sym (is ys))
+    where
+      long : (zs : List ℕ) → length (take count (drop from zs)) ≡ min count (length zs - from)
+      long zs = length-take count (drop from zs) ∙ ap (min count) (length-drop from zs)
+
+      same-length : length (take count (drop from xs)) ≡ length (take count (drop from ys))
+      same-length = long xs ∙ ap (λ (k : ℕ). min count (k - from)) (l .long) ∙ sym (long ys)
+
   pub stands-same : (kind at : ℕ) → stands kind xs at ≡ stands kind ys at
   stands-same kind at = rw (l .long, kind-same (l .at at))
 
@@ -59,7 +76,7 @@ module _ (xs ys : List ℕ) (l : MoreRecognised xs ys) where
 
   -- a record of a known kind: what is to be shown of its own causes and of what follows, where no word is lacking
   pub record-turns : {A : Type 0} (Rel : A → A → Type 0) (kind at f g : ℕ) (t u : ℕ → Turn A) → kindOf (word xs at) ≡ kind
-      → (lacks (amountsOfKind kind) xs at ≡ false → (f ≡ g) × (f ≡ 0 → (next : ℕ) → Turns Rel (t next) (u next)))
+      → (lacks (amountsOfKind kind (word xs at)) xs at ≡ false → (f ≡ g) × (f ≡ 0 → (next : ℕ) → Turns Rel (t next) (u next)))
       → Turns Rel (recordThen xs at f t) (recordThen ys at g u)
   unfolding recordThen
   record-turns Rel kind at f g t u k h =
@@ -70,7 +87,7 @@ module _ (xs ys : List ℕ) (l : MoreRecognised xs ys) where
           → Turns Rel (cond b (bad 6 at) (sound f at (t (at + suc (amountsIn (word xs at)))))) (cond b (bad 6 at) (sound g at (u (at + suc (amountsIn (word xs at))))))
       go true e = Turns.bads
       go false e =
-          let r = h (subst (λ (n : ℕ). lacks n xs at ≡ false) (ap amountsOfKind k) e) in
+          let r = h (subst (λ (n : ℕ). lacks n xs at ≡ false) (amounts-at _ k) e) in
           rw (← r .0) (sounds Rel f at _ _ (λ z. r .1 z (at + suc (amountsIn (word xs at)))))
 
   -- a record that the run goes on with only where its kind stands

@@ -7,7 +7,7 @@ use native.Mathlib.Nat.{le-div-iff-mul-le}
 use borrow.Author.Tests.{leb-true, leb-false, eqb-true, eq-eqb}
 use lib.Dec.{leb, eqb}
 use lib.Pow.{shr-shr, field, pow-pos}
-use Rattle.rules.specs.Word.{kindOf, payloadOf, bitOf, amountsOfKind, amountsIn, marksByKind, marksOfKind, marksIn}
+use Rattle.rules.specs.Word.{kindOf, payloadOf, bitOf, amountsIn, marksByKind, marksOfKind, marksIn}
 use Rattle.rules.proofs.Lists.{table-at-most}
 use Rattle.rules.specs.TwoDesks.{MoreMarks}
 
@@ -28,7 +28,7 @@ module _ {a b : ℕ} (m : MoreMarks a b) where
   kind-same = above-same 28 (omega (arith, marks-most a))
 
   pub amounts-in-same : amountsIn a ≡ amountsIn b
-  amounts-in-same = ap amountsOfKind kind-same
+  amounts-in-same = rw (kind-same, ap (λ (n : ℕ). n % 2 ^ 6) (above-same 6 (marks-most a)))
 
   -- a word without marks is the same
   pub plain : marksIn a ≡ 0 → a ≡ b

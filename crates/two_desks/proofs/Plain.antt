@@ -1,24 +1,24 @@
--- Two books that differ in marks at most: protections, trades, written credits and covers have no marks, so they are the same.
+-- Two books that differ in marks at most: protections, trades, written credits, covers and baskets have no marks, so they are the same.
 -- Assumes nothing.
-use Prim.Native.Nat.{ℕ, suc}
-use mathlib.Core.Path.{_≡_, refl, ap, fun-ext}
+use Prim.Native.Nat.{ℕ, suc, _+_}
+use mathlib.Core.Path.{_≡_, refl, _∙_, ap, fun-ext}
 use mathlib.Core.Bool.{Bool, true, false, not, _||_, cond}
 use mathlib.Core.List.{List}
 use native.Mathlib.Omega.{arith}
 use borrow.Author.Tests.{eqb-true, not-false}
 use lib.Dec.{leb, ltb, eqb}
-use lib.ListN.{length}
-use Rattle.rules.specs.Word.{word, kindOf, payloadOf, sizeOf, minusZero}
+use lib.ListN.{length, take, drop}
+use Rattle.rules.specs.Word.{word, kindOf, payloadOf, sizeOf, minusZero, namesIn}
 use Rattle.rules.specs.Calendar.{lastDate}
 use Rattle.rules.specs.Book.{Protection, Cover, Member}
 use Rattle.rules.specs.Run.{Turn, over, runFrom}
-use Rattle.rules.specs.Read.{headOf, firstRecord, headFaulty, dateFaulty, reportingDate, protectionAt, protectionTurn, coverAt, coverTurn, writtenAt, writtenTurn, tradeAt, tradeTurn, memberTurn, protectionsOf}
+use Rattle.rules.specs.Read.{headOf, firstRecord, headFaulty, dateFaulty, reportingDate, protectionAt, protectionTurn, coverAt, coverTurn, writtenAt, writtenTurn, tradeAt, tradeTurn, gradesAt, basketAt, basketTurn, memberTurn, protectionsOf}
 use Rattle.rules.specs.TwoDesks.{MoreRecognised}
 use Rattle.rules.proofs.Lists.{or-left, or-right, or-true}
 use Rattle.rules.proofs.Runs.{Turns, choices}
 use Rattle.rules.proofs.Runs
 use Rattle.two_desks.proofs.Marks.{kind-same}
-use Rattle.two_desks.proofs.Amounts.{word-same, amount-same, stands-turns, record-turns, turns-eq, eq-turns}
+use Rattle.two_desks.proofs.Amounts.{word-same, amount-same, amounts-same, stands-turns, record-turns, turns-eq, eq-turns}
 
 -- the same turn at every place, the same run
 pub run-same : {A : Type 0} (t u : ℕ → Turn A) → ((at : ℕ) → t at ≡ u at) → (k at : ℕ) → runFrom t k at ≡ runFrom u k at
@@ -61,11 +61,24 @@ module _ (xs ys : List ℕ) (l : MoreRecognised xs ys) where
       let d = amount-same xs ys l 4 at e 3 (omega arith) in
       (rw (w, a, b, c, d), λ z next. Turns.somes (rw (w, a, b, c, d))))
 
+  basket-same : (at : ℕ) → kindOf (word xs at) ≡ 11 → Turns (λ (a b : Member). a ≡ b) (basketTurn xs at) (basketTurn ys at)
+  unfolding basketTurn basketAt
+  basket-same at k =
+      record-turns xs ys l (λ (a b : Member). a ≡ b) 11 at _ _ _ _ k
+      (λ e.
+      let w = word-same xs ys l at 11 k refl in
+      let a = amount-same xs ys l (namesIn (word xs at) + 2) at e 0 (omega arith) in
+      let b = amount-same xs ys l (namesIn (word xs at) + 2) at e 1 (omega arith) in
+      let g : gradesAt xs at ≡ gradesAt ys at
+      = amounts-same xs ys l (namesIn (word xs at) + 2) at (at + 3) (namesIn (word xs at)) e (omega arith) (omega arith) ∙ ap (λ (v : ℕ). take (namesIn v) (drop (at + 3) ys)) w in
+      (rw (g, w, a, b), λ z next. Turns.somes (rw (g, w, a, b))))
+
   pub member-same : (at : ℕ) → memberTurn xs at ≡ memberTurn ys at
   unfolding memberTurn
   member-same at =
       turns-eq _ _ (stands-turns xs ys l (λ (a b : Member). a ≡ b) 5 at _ _ _ _ (trade-same at)
-      (stands-turns xs ys l (λ (a b : Member). a ≡ b) 6 at _ _ over over (written-same at) Turns.overs))
+      (stands-turns xs ys l (λ (a b : Member). a ≡ b) 6 at _ _ _ _ (written-same at)
+      (stands-turns xs ys l (λ (a b : Member). a ≡ b) 11 at _ _ over over (basket-same at) Turns.overs)))
 
   -- ---- the head and the protections
 

@@ -1,7 +1,7 @@
 //! Damage to one record, which begins at `start` and lies wholly in the book.
 
-use super::super::{amounts, word, Random};
-use super::SIGN;
+use super::super::{word, Random};
+use super::{amounts_at, basket, SIGN};
 use crate::model::FIRST_RECORD;
 
 pub fn damage(words: &mut Vec<u32>, start: usize, kind: u32, random: &mut Random) {
@@ -15,6 +15,7 @@ pub fn damage(words: &mut Vec<u32>, start: usize, kind: u32, random: &mut Random
         3 => single_amount(words, start, kind, random),
         _ => match kind {
             7 => cover(words, start, random),
+            11 => basket::damage(words, start, random),
             9 if random.one_in(2) => falling_days(words, start, random),
             2 | 3 | 5 | 6 | 9 => relation(words, start, kind, random),
             _ => single_amount(words, start, kind, random),
@@ -23,7 +24,7 @@ pub fn damage(words: &mut Vec<u32>, start: usize, kind: u32, random: &mut Random
 }
 
 fn amount_kind(words: &mut Vec<u32>, start: usize, kind: u32, random: &mut Random) {
-    match amounts(kind) {
+    match amounts_at(words, start, kind) {
         0 => {}
         count if random.one_in(3) => words.truncate(start + 1 + random.index(count)),
         count => {
@@ -41,7 +42,7 @@ fn payload(first: &mut u32, kind: u32, random: &mut Random) {
         4 => 6,
         5 => 13,
         6 => 23,
-        7 => 12,
+        7 | 11 => 12,
         8 => 3,
         _ => 8,
     };
@@ -54,18 +55,22 @@ fn payload(first: &mut u32, kind: u32, random: &mut Random) {
         (1, 10) => *first = *first & !0xF0 | random.between(11, 12) << 4,
         (2, _) => *first |= 1 << meaning,
         (3, 5) => *first |= 1 << random.between(11, 13),
+        (3, 11) => *first |= 1 << random.between(12, 27),
         _ => *first ^= 1 << random.below(28),
     }
 }
 
 fn single_amount(words: &mut [u32], start: usize, kind: u32, random: &mut Random) {
-    if amounts(kind) == 0 {
+    let amounts = amounts_at(words, start, kind);
+    if amounts == 0 {
         return;
     }
     // Only a value may be negative, so what it may be is tried more often.
     let place = match kind {
         5 | 6 if random.one_in(3) => start + 1,
-        _ => start + 1 + random.index(amounts(kind)),
+        // Grades are many, so value and notional are tried more often.
+        11 if !random.one_in(3) => start + 1 + random.index(2),
+        _ => start + 1 + random.index(amounts),
     };
     let minus_zero = SIGN;
     let edges = [0, 65_535, 65_536, SIGN - 1, SIGN | 1, SIGN | (SIGN - 1)];

@@ -13,10 +13,10 @@ impl Writer<'_> {
         let cash = [self.size(), self.size(), self.size()];
         self.record(4, marks, &cash);
         for _ in 0..self.random.pick(&[0, 1, 1, 2, 2, 3, 5]) {
-            if self.random.one_in(2) {
-                self.trade();
-            } else {
-                self.written_credit();
+            match self.random.below(5) {
+                0 | 1 => self.trade(),
+                2 | 3 => self.written_credit(),
+                _ => self.basket(),
             }
         }
     }

@@ -1,6 +1,7 @@
 use native.Mathlib.Omega.{arith}
 use borrow.Author.Tests.{lt-ltb, le-ltb}
-use Rattle.derivatives.proofs.Truth.{mark-fits, gap-beyond}
+use Rattle.rules.proofs.Lists.{mark-fits}
+use Rattle.derivatives.proofs.Truth.{gap-beyond}
 use borrow.Author.Needs.{needs}
 use Rattle.derivatives.proofs.faults.resets_faulty.Statement.{statement}
 use Rattle.derivatives.proofs.faults.resets_faulty.Tie as tie

@@ -5,8 +5,8 @@ use Rattle.rules.specs.Word.{bitOf, sizeOf}
 use Rattle.rules.specs.Factors.{creditFactor}
 use Rattle.rules.specs.Read.{writtenAt}
 use Rattle.rules.specs.Weigh.{writtenAddOn}
-use Rattle.laws.proofs.FactorBounds.{credit-at-most}
-use Rattle.derivatives.proofs.AddOns.{credit-product, bounded-is}
+use Rattle.laws.proofs.FactorBounds.{credit-at-most, credit-product}
+use Rattle.derivatives.proofs.AddOns.{bounded-is}
 use borrow.Author.Needs.{needs}
 use Rattle.derivatives.proofs.tally.written_add_on.Statement.{statement}
 use Rattle.derivatives.proofs.tally.written_add_on.Tie as tie

@@ -1,0 +1,4 @@
+pub mod Worst
+pub mod Gathering
+pub mod Causes
+pub mod Reading

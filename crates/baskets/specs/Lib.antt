@@ -1,0 +1,3 @@
+pub mod Grades
+pub mod Words
+pub mod Reading

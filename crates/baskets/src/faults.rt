@@ -1,0 +1,55 @@
+// The causes of a basket whose words are all there, 6 for one that is no amount and then 7, 8 and 17; 0 where none fits.
+use crate::read::BasketWords;
+use rules::causes;
+use rules::kinds;
+use rules::limits;
+use rules::payloads;
+use words::amount::faulty_amount;
+use words::amount::minus_zero;
+use words::causes::cause;
+use words::numbers::either;
+use words::parts::field;
+use words::parts::kind;
+use words::parts::payload;
+ghost use mathlib.Core.Path.{_≡_};
+ghost use Rattle.rules.specs.Word.{namesIn, nthIn};
+ghost use Rattle.rules.specs.Faults.{namesFault};
+ghost use Rattle.baskets.specs.Words.{causeOf};
+
+// 17 is "last among that record's causes".
+pub fn basket_fault(b: BasketWords) -> u32
+    ensures { λ r. ⌜ r ≡ causeOf b ⌝ }
+{
+    let g = b.grades;
+    let others = either(
+        kind(b.value) != kinds::AMOUNT,
+        kind(b.notional) != kinds::AMOUNT,
+    );
+    let amounts = either(minus_zero(b.value), faulty_amount(b.notional));
+    cause(
+        causes::WORDS_LACKING,
+        either(others, g.other),
+        cause(
+            causes::PAYLOAD_FAULTY,
+            payload(b.head) >= payloads::BASKET_END,
+            cause(
+                causes::AMOUNT_FAULTY,
+                either(amounts, g.negative),
+                cause(
+                    causes::BASKET_FAULTY,
+                    either(names_faulty(b.head), g.beyond),
+                    causes::NONE,
+                ),
+            ),
+        ),
+    )
+}
+
+// "n or m outside 1 to 32, n above m": n is at least 1, m at most 32 and n at most m, which settles the other two ends.
+fn names_faulty(head: u32) -> bool
+    ensures { λ r. ⌜ r ≡ namesFault (nthIn head) (namesIn head) ⌝ }
+{
+    let nth = field(head, payloads::BASKET_NTH, payloads::BASKET_NTH_BITS);
+    let names = field(head, payloads::BASKET_NAMES, payloads::BASKET_NAMES_BITS);
+    either(either(nth < 1, names > limits::NAMES), names < nth)
+}

@@ -1,0 +1,54 @@
+// The grades of a basket's names, in one pass over their words. The n-th worst grade does not qualify exactly where at least n grades do not, so
+// they are counted and not sorted.
+use rules::kinds;
+use rules::limits;
+use words::amount::faulty_amount;
+use words::amount::size;
+use words::numbers::either;
+use words::numbers::one_if;
+use words::parts::kind;
+use words::parts::payload;
+ghost use mathlib.Core.Path.{_≡_};
+ghost use Prim.Native.Nat.{_≤_};
+ghost use lib.ListN.{length};
+ghost use denote.Ref.{now};
+ghost use Rattle.baskets.specs.Grades.{gradesOf, withGrade};
+
+// Whether a word is no amount, whether a grade is negative, whether one is out of range, and how many do not qualify; equal ones count
+// separately.
+pub struct Grades {
+    pub other: bool,
+    pub negative: bool,
+    pub beyond: bool,
+    pub failing: u32,
+}
+
+pub fn grades_of(grades: &[u32]) -> Grades
+    requires { ⌜ length (now grades) ≤ 63 ⌝ }
+    ensures { λ r. ⌜ r ≡ gradesOf (now (grades .entry)) ⌝ }
+{
+    let mut g = Grades {
+        other: false,
+        negative: false,
+        beyond: false,
+        failing: 0,
+    };
+    let mut i = 0;
+    while i < grades.len() {
+        g = with_grade(g, grades[i]);
+        i += 1;
+    }
+    g
+}
+
+fn with_grade(g: Grades, grade: u32) -> Grades
+    requires { ⌜ g .failing ≤ 63 ⌝ }
+    ensures { λ r. ⌜ r ≡ withGrade g grade ⌝ }
+{
+    Grades {
+        other: either(g.other, kind(grade) != kinds::AMOUNT),
+        negative: either(g.negative, faulty_amount(grade)),
+        beyond: either(g.beyond, payload(grade) > limits::GRADE),
+        failing: g.failing + one_if(size(grade) > limits::QUALIFYING_GRADE),
+    }
+}
