@@ -1,3 +1,4 @@
 pub mod Grades
 pub mod Words
 pub mod Reading
+pub mod Claims

@@ -25,21 +25,21 @@ pub fn basket_fault(b: BasketWords) -> u32
         kind(b.value) != kinds::AMOUNT,
         kind(b.notional) != kinds::AMOUNT,
     );
-    let amounts = either(minus_zero(b.value), faulty_amount(b.notional));
+    let signs = either(minus_zero(b.value), faulty_amount(b.notional));
+    let lacking = either(others, g.other);
+    let bits = payload(b.head) >= payloads::BASKET_END;
+    let amounts = either(signs, g.negative);
+    let range = either(names_faulty(b.head), g.beyond);
     cause(
         causes::WORDS_LACKING,
-        either(others, g.other),
+        lacking,
         cause(
             causes::PAYLOAD_FAULTY,
-            payload(b.head) >= payloads::BASKET_END,
+            bits,
             cause(
                 causes::AMOUNT_FAULTY,
-                either(amounts, g.negative),
-                cause(
-                    causes::BASKET_FAULTY,
-                    either(names_faulty(b.head), g.beyond),
-                    causes::NONE,
-                ),
+                amounts,
+                cause(causes::BASKET_FAULTY, range, causes::NONE),
             ),
         ),
     )

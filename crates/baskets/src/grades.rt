@@ -9,7 +9,8 @@ use words::numbers::one_if;
 use words::parts::kind;
 use words::parts::payload;
 ghost use mathlib.Core.Path.{_≡_};
-ghost use Prim.Native.Nat.{_≤_};
+ghost use Prim.Native.Nat.{suc, _≤_};
+ghost use lib.Dec.{ltb};
 ghost use lib.ListN.{length};
 ghost use denote.Ref.{now};
 ghost use Rattle.baskets.specs.Grades.{gradesOf, withGrade};
@@ -41,9 +42,10 @@ pub fn grades_of(grades: &[u32]) -> Grades
     g
 }
 
+// With one more; it counts as one at most.
 fn with_grade(g: Grades, grade: u32) -> Grades
     requires { ⌜ g .failing ≤ 63 ⌝ }
-    ensures { λ r. ⌜ r ≡ withGrade g grade ⌝ }
+    ensures { λ r. ⌜ (r ≡ withGrade g grade) × (r .failing ≤ suc (g .failing)) ⌝ }
 {
     Grades {
         other: either(g.other, kind(grade) != kinds::AMOUNT),
@@ -51,4 +53,11 @@ fn with_grade(g: Grades, grade: u32) -> Grades
         beyond: either(g.beyond, payload(grade) > limits::GRADE),
         failing: g.failing + one_if(size(grade) > limits::QUALIFYING_GRADE),
     }
+}
+
+// The n-th worst qualifies where fewer than n do not.
+pub fn nth_qualifies(g: Grades, nth: u32) -> bool
+    ensures { λ r. ⌜ r ≡ ltb (g .failing) nth ⌝ }
+{
+    g.failing < nth
 }

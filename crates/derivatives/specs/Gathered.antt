@@ -40,12 +40,12 @@ plusWritten t w covered = record {
   covered = t .covered + covered;
 }
 
--- with a basket of such a value and add-on
-abbrev pub plusBasket : Tally → (value addOn : ℕ) → Tally
-plusBasket t value addOn = record {
+-- with a basket of such a value and gross add-on
+abbrev pub plusBasket : Tally → (value gross : ℕ) → Tally
+plusBasket t value gross = record {
   gains = t .gains + gainOf value;
   losses = t .losses + lossOf value;
-  gross = t .gross + addOn;
+  gross = t .gross + gross;
   uncovered = t .uncovered;
   written = t .written;
   covered = t .covered;

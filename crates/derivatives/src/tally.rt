@@ -58,13 +58,13 @@ impl Tally {
     }
 
     // A basket joins V, G and A "like a trade".
-    pub fn add_basket(mut self, value: u32, add_on: u64) -> Tally
-        requires { ⌜ TallyRoomy self × («add_on» ≤ 2 ^ 62) ⌝ }
-        ensures { λ r. ⌜ r ≡ plusBasket self value «add_on» ⌝ }
+    pub fn add_basket(mut self, value: u32, gross: u64) -> Tally
+        requires { ⌜ TallyRoomy self × (gross ≤ 2 ^ 62) ⌝ }
+        ensures { λ r. ⌜ r ≡ plusBasket self value gross ⌝ }
     {
         self.gains = self.gains + wide(gain(value));
         self.losses = self.losses + wide(loss(value));
-        self.gross = self.gross + add_on;
+        self.gross = self.gross + gross;
         self
     }
 

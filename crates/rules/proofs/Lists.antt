@@ -1,7 +1,7 @@
 -- Truth values; lists whose elements all have a property; two lists side by side. Assumes nothing.
 use Prim.Native.Nat.{ℕ, zero, suc, _+_, _≤_}
 use mathlib.Core.Path.{_≡_, refl, sym}
-use mathlib.Core.Bool.{Bool, true, false, _&&_, _||_, cond}
+use mathlib.Core.Bool.{Bool, true, false, _&&_, _||_}
 use mathlib.Core.List.{List, [], _∷_, _++_}
 use native.Mathlib.Omega.{arith}
 use native.Mathlib.Nat.{add-assoc}
@@ -31,11 +31,6 @@ or-right false b e = e
 pub or-true : (b : Bool) → b || true ≡ true
 or-true true = refl
 or-true false = refl
-
--- a mark as a number
-pub mark-fits : (mark : Bool) (one : ℕ) → one ≡ cond mark 1 0 → one ≤ 1
-mark-fits true one is = omega arith
-mark-fits false one is = omega arith
 
 -- ---- one list
 

@@ -59,9 +59,9 @@ pub fn both(a: bool, b: bool) -> bool
     if a { b } else { false }
 }
 
-// A mark as a number, to multiply by it.
+// A mark as a number, to multiply by it or to count.
 pub fn one_if(b: bool) -> u32
-    ensures { λ r. ⌜ r ≡ cond b 1 0 ⌝ }
+    ensures { λ r. ⌜ (r ≡ cond b 1 0) × (r ≤ 1) ⌝ }
 {
     b as u32
 }
