@@ -1,5 +1,5 @@
--- The tests of a basket's n and m, and its causes by what its grades come to. Assumes nothing.
-use Prim.Native.Nat.{ℕ, _≤_, _<_}
+-- The tests of the n and m of a basket. Assumes nothing.
+use Prim.Native.Nat.{ℕ}
 use mathlib.Core.Path.{_≡_, refl}
 use mathlib.Core.Bool.{Bool, true, false, _||_}
 use native.Mathlib.Omega.{arith}

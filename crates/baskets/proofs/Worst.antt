@@ -9,7 +9,7 @@ use lib.Dec.{leb, ltb, leb·suc-suc}
 use lib.ListN.{length, getD}
 use Rattle.rules.specs.Weigh.{insertDown, sortedDown, nthWorst, lastQualifying}
 use Rattle.baskets.specs.Grades.{countAbove}
-use Rattle.baskets.specs.Claims.{NoneAbove, Falls, Sorted, NthWorst}
+use Rattle.baskets.specs.Claims.{NoneAbove, Falls, NthWorst}
 
 -- ---- sorted downwards
 
