@@ -61,7 +61,8 @@ enum leverage_cause {
     LEVERAGE_COVER_UNFIT = 12,    /* entity, rank or days unfit */
     LEVERAGE_COVER_BEYOND = 13,   /* cover beyond either amount */
     LEVERAGE_END = 14,            /* no end word, wrong count, words after it */
-    LEVERAGE_DATE = 16            /* reporting date above 36,524 or no good amount */
+    LEVERAGE_DATE = 16,           /* reporting date above 36,524 or no good amount */
+    LEVERAGE_BASKET = 17          /* basket: n or m outside 1 to 32, n above m, a grade above 31 */
 };
 
 /* What an accepted book comes to. */
@@ -84,7 +85,7 @@ enum leverage_outcome {
  *
  * Accepted: the first 22 rows are written, and entry i below b holds protection i and what is left of it.
  * Refused before the records (1, 2, 3, 16 and 4): rows and register are as they were.
- * Refused in the records (5 to 14): the rows are as they were, and the first b entries are all zero.
+ * Refused in the records (5 to 14 and 17): the rows are as they were, and the first b entries are all zero.
  * Rows from 22 on and entries from b on are never written. What rows and register held before does not matter.
  *
  * The lengths are in elements and of any size. Each pointer is aligned, not null (for length 0 too), and leads to that many initialised

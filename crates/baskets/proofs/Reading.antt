@@ -23,6 +23,7 @@ use Rattle.baskets.specs.Grades.{noAmount, gradesOf}
 use Rattle.baskets.specs.Words.{basketWords, causeOf, addOnOf}
 use Rattle.baskets.specs.Reading.{basketFaultAt, basketCause, readBy, basketRead}
 use Rattle.baskets.proofs.Worst.{qualifies}
+use Rattle.baskets.proofs.Causes.{any-no-amount, any-faulty-amount, any-faulty-grade}
 
 -- ---- its words
 
@@ -64,7 +65,9 @@ module _ (ws : List ℕ) (at : ℕ) where
 
   cause-is : at + (namesIn (word ws at) + 2) < length ws → causeOf (basketWords ws at) ≡ basketCause ws at
   unfolding causeOf basketCause basketFault cause
-  cause-is h = rw (lacks-any (namesIn (word ws at) + 2) h ∙ ap (anyOf noAmount) (behind h)) (simp or-assoc)
+  cause-is h =
+      rw (lacks-any (namesIn (word ws at) + 2) h ∙ ap (anyOf noAmount) (behind h), any-no-amount (gradesAt ws at), any-faulty-amount (gradesAt ws at), any-faulty-grade (gradesAt ws at))
+      (simp or-assoc)
 
 -- ---- its add-on
 

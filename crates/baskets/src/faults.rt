@@ -16,7 +16,7 @@ ghost use Rattle.rules.specs.Word.{namesIn, nthIn};
 ghost use Rattle.rules.specs.Faults.{namesFault};
 ghost use Rattle.baskets.specs.Words.{causeOf};
 
-// 17 is "last among that record's causes".
+// 17 is "last among that record's causes". A test that one of the grades fails, the word with the bits of all of them fails.
 pub fn basket_fault(b: BasketWords) -> u32
     ensures { λ r. ⌜ r ≡ causeOf b ⌝ }
 {
@@ -26,10 +26,10 @@ pub fn basket_fault(b: BasketWords) -> u32
         kind(b.notional) != kinds::AMOUNT,
     );
     let signs = either(minus_zero(b.value), faulty_amount(b.notional));
-    let lacking = either(others, g.other);
+    let lacking = either(others, kind(g.all) != kinds::AMOUNT);
     let bits = payload(b.head) >= payloads::BASKET_END;
-    let amounts = either(signs, g.negative);
-    let range = either(names_faulty(b.head), g.beyond);
+    let amounts = either(signs, faulty_amount(g.all));
+    let range = either(names_faulty(b.head), payload(g.all) > limits::GRADE);
     cause(
         causes::WORDS_LACKING,
         lacking,

@@ -1,13 +1,8 @@
 // The grades of a basket's names, in one pass over their words. The n-th worst grade does not qualify exactly where at least n grades do not, so
 // they are counted and not sorted.
-use rules::kinds;
 use rules::limits;
-use words::amount::faulty_amount;
 use words::amount::size;
-use words::numbers::either;
 use words::numbers::one_if;
-use words::parts::kind;
-use words::parts::payload;
 ghost use mathlib.Core.Path.{_≡_};
 ghost use Prim.Native.Nat.{suc, _≤_};
 ghost use lib.Dec.{ltb};
@@ -15,12 +10,10 @@ ghost use lib.ListN.{length};
 ghost use denote.Ref.{now};
 ghost use Rattle.baskets.specs.Grades.{gradesOf, withGrade};
 
-// Whether a word is no amount, whether a grade is negative, whether one is out of range, and how many do not qualify; equal ones count
+// The bits that any of their words has, which show a kind, a sign or a size that no grade has; and how many do not qualify, equal ones
 // separately.
 pub struct Grades {
-    pub other: bool,
-    pub negative: bool,
-    pub beyond: bool,
+    pub all: u32,
     pub failing: u32,
 }
 
@@ -28,12 +21,7 @@ pub fn grades_of(grades: &[u32]) -> Grades
     requires { ⌜ length (now grades) ≤ 63 ⌝ }
     ensures { λ r. ⌜ r ≡ gradesOf (now (grades .entry)) ⌝ }
 {
-    let mut g = Grades {
-        other: false,
-        negative: false,
-        beyond: false,
-        failing: 0,
-    };
+    let mut g = Grades { all: 0, failing: 0 };
     let mut i = 0;
     while i < grades.len() {
         g = with_grade(g, grades[i]);
@@ -48,9 +36,7 @@ fn with_grade(g: Grades, grade: u32) -> Grades
     ensures { λ r. ⌜ (r ≡ withGrade g grade) × (r .failing ≤ suc (g .failing)) ⌝ }
 {
     Grades {
-        other: either(g.other, kind(grade) != kinds::AMOUNT),
-        negative: either(g.negative, faulty_amount(grade)),
-        beyond: either(g.beyond, payload(grade) > limits::GRADE),
+        all: g.all | grade,
         failing: g.failing + one_if(size(grade) > limits::QUALIFYING_GRADE),
     }
 }

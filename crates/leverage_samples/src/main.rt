@@ -1,5 +1,5 @@
 // Files the books of the file `books`, one after another in the same buffers, and writes a line for each: number, place, verdict, and the
-// rows as they stand. Each of the numbers 0 to 14 and 16 and of the verdicts 0 to 3 occurs. The register is `file_alone`'s own, so that it does
+// rows as they stand. Each of the numbers 0 to 14, 16 and 17 and of the verdicts 0 to 3 occurs. The register is `file_alone`'s own, so that it does
 // not show here; the comparison through the static library holds it.
 //
 // `make samples` writes `books` and the lines expected, by the implementation in compare/.

@@ -4,10 +4,7 @@ use Rattle.baskets.proofs.grades.with_grade.Statement.{statement}
 use Rattle.baskets.proofs.grades.with_grade.Tie as tie
 
 returns : tie.Need-returns
-returns c = (
-  simp ((c .before .one-if .ensures .0), (c .before .before .size .ensures), (c .before .before .before .either3 .ensures), (c .before .before .before .before .payload .ensures), (c .before .before .before .before .before .either2 .ensures), (c .before .before .before .before .before .before .faulty-amount .ensures), (c .before .before .before .before .before .before .before .either .ensures), (c .before .before .before .before .before .before .before .before .kind .ensures)),
-  omega (arith, (c .before .one-if .ensures .1)),
-)
+returns c = (simp ((c .before .one-if .ensures .0), (c .before .before .size .ensures)), omega (arith, (c .before .one-if .ensures .1)))
 
 pub with-grade-spec : {M : Type 1} → statement M
-with-grade-spec = tie.close (tie.spec (search needs) (search needs) (search needs) (search needs) (search needs) (search needs) (search needs) (search needs) (search needs) returns)
+with-grade-spec = tie.close (tie.spec (search needs) (search needs) (search needs) returns)
