@@ -45,7 +45,7 @@ pub fn basket_fault(b: BasketWords) -> u32
     )
 }
 
-// "n or m outside 1 to 32, n above m": n is at least 1, m at most 32 and n at most m, which settles the other two ends.
+// "both 1 to 32 and n at most m": where n is at least 1, m at most 32 and n at most m, the other two ends hold.
 fn names_faulty(head: u32) -> bool
     ensures { λ r. ⌜ r ≡ namesFault (nthIn head) (namesIn head) ⌝ }
 {

@@ -12,10 +12,10 @@ ghost use denote.Ref.{now};
 ghost use Rattle.records.specs.Readable.{Readable};
 ghost use Rattle.baskets.specs.Reading.{basketRead};
 
-pub mod addon;
+mod addon;
 mod faults;
-pub mod grades;
-pub mod read;
+mod grades;
+mod read;
 
 // What a basket brings to its set, and the place behind it; or the number of its cause.
 pub enum BasketRead {

@@ -54,11 +54,11 @@ writtenFault w value notional lossTaken days premiums =
     (cause 9 (ltb (sizeOf notional) (sizeOf lossTaken))
     0))
 
--- of kind 11: "n or m outside 1 to 32, n above m"
+-- of kind 11: n and m are "both 1 to 32 and n at most m"
 abbrev pub namesFault : (nth names : ℕ) → Bool
 namesFault nth names = ltb nth 1 || ltb 32 nth || ltb names 1 || ltb 32 names || ltb names nth
 
--- one word or more
+-- at least one of these words is
 abbrev pub anyOf : (ℕ → Bool) → List ℕ → Bool
 anyOf faulty [] = false
 anyOf faulty (w ∷ ws) = faulty w || anyOf faulty ws

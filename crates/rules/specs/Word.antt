@@ -62,7 +62,8 @@ nthIn w = fieldOf 0 6 w
 abbrev pub namesIn : ℕ → ℕ
 namesIn w = fieldOf 6 6 w
 
--- how many amounts follow the head word of a record, by its kind from 0 on; a basket, kind 11, has a grade for each name besides its two
+-- how many amounts follow the head word of a record, by its kind from 0 on. A basket, kind 11, has a grade for each name besides its two,
+-- "counted by m as written".
 abbrev pub amountsOfKind : (kind w : ℕ) → ℕ
 amountsOfKind kind w = getD (0 ∷ 2 ∷ 3 ∷ 3 ∷ 3 ∷ 4 ∷ 5 ∷ 1 ∷ 0 ∷ 7 ∷ 1 ∷ (namesIn w + 2) ∷ []) kind 0
 
