@@ -35,8 +35,9 @@ fn with_grade(g: Grades, grade: u32) -> Grades
     requires { ⌜ g .failing ≤ 63 ⌝ }
     ensures { λ r. ⌜ (r ≡ withGrade g grade) × (r .failing ≤ suc (g .failing)) ⌝ }
 {
+    let before = g.all;
     Grades {
-        all: g.all | grade,
+        all: before | grade,
         failing: g.failing + one_if(size(grade) > limits::QUALIFYING_GRADE),
     }
 }
