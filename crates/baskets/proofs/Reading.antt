@@ -1,7 +1,7 @@
 -- The basket at a place: its words, its causes and its add-on are those that Read and Weigh say. Assumes nothing.
 use Prim.Native.Nat.{ℕ, zero, suc, _+_, _-_, _*_, _≤_, _<_}
 use mathlib.Core.Path.{_≡_, refl, sym, _∙_, ap}
-use mathlib.Core.Bool.{Bool, true, false, cond, _||_, or-assoc, or-comm}
+use mathlib.Core.Bool.{Bool, _||_, or-assoc, or-comm}
 use mathlib.Core.List.{List, [], _∷_, _++_, map}
 use native.Mathlib.Omega.{arith}
 use borrow.Author.Tests.{lt-leb, ltb-false}
@@ -80,12 +80,8 @@ least ws at e =
     ltb-false _ _ (or-left _ _ (or-left _ _ (or-left _ _ (or-left _ _ names))))
 
 fault-none : (ws : List ℕ) (at : ℕ) → basketCause ws at ≡ 0 → basketFaultAt ws at ≡ 0
-unfolding basketCause
-fault-none ws at e = go (lacks (namesIn (word ws at) + 2) ws at) e
-  where
-    go : (b : Bool) → cond b 6 (basketFaultAt ws at) ≡ 0 → basketFaultAt ws at ≡ 0
-    go true z = let z : ⊥ = omega arith in absurd z
-    go false z = z
+unfolding basketCause cause
+fault-none ws at e = cause-none 5 (lacks (namesIn (word ws at) + 2) ws at) (basketFaultAt ws at) e .1
 
 add-on-is : (ws : List ℕ) (at : ℕ) → basketFaultAt ws at ≡ 0 → addOnOf (basketWords ws at) ≡ basketAddOn (basketAt ws at)
 unfolding basketAddOn basketAt
