@@ -30,10 +30,10 @@ unfolding sumsOf
 small ws rows entries items left e =
     let a = accepted-is ws rows entries items left e in
     let bands = headOf ws .bands in
-    let l = rw (a .read) at (items-small bands ws (head-good ws (a .head) .0)) in
+    let l = rw (a .reading .read) at (items-small bands ws (head-good ws (a .reading .head) .0)) in
     let m = total-le-all (λ (p : Placed). allRows bands (p .item)) (λ (p : Placed). itemWeight bands (p .item)) (λ p. rows-at-most bands (p .item)) items in
     let t = sums-total bands items in
-    let short = a .short in
+    let short = a .reading .short in
     record {
       up = omega arith;
       down = omega arith;

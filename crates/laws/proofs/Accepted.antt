@@ -1,11 +1,11 @@
--- What an accepted book is known by: it is not too long, its head and its date are good, the register is long enough, its reading ends without a
--- fault and its covers all fit. And the number is 0 just where a book is accepted. Assumes nothing.
-use Prim.Native.Nat.{ℕ, zero, suc, _≤_, _^_}
+-- What an accepted book is known by: it is read without a fault, and its covers all fit. And the number is 0 just where a book is accepted.
+-- Assumes nothing.
+use Prim.Native.Nat.{ℕ, zero, suc, _^_}
 use mathlib.Core.Path.{_≡_, refl}
 use mathlib.Core.Bool.{Bool, true, false, cond}
 use mathlib.Core.List.{List, [], _∷_, map}
 use native.Mathlib.Omega.{arith}
-use borrow.Author.Tests.{ltb-false, eqb-true, ne-eqb}
+use borrow.Author.Tests.{ltb-false, le-ltb, eqb-true, ne-eqb}
 use lib.Dec.{eqb, ltb}
 use lib.ListN.{length}
 use Rattle.rules.specs.declared.Draw.{Draw}
@@ -15,16 +15,11 @@ use Rattle.rules.specs.Run.{Run}
 use Rattle.rules.specs.Read.{headFaulty, dateFaulty, headOf, protectionsOf, itemsOf}
 use Rattle.rules.specs.Register.{entryOf, drawsOver, drawFault, drawn, Settled, unfit, settled, ifFit, settle}
 use Rattle.rules.specs.Filing.{Outcome, early, refused, accepted, judged, recordsOutcome, admission, outcomeOf}
+use Rattle.laws.specs.ReadAs.{ReadAs}
 
 pub record Accepted (ws : List ℕ) (rows entries : ℕ) (items : List Placed) (left : List Entry) : Type 0 where
-  pub rows-enough : 22 ≤ rows
-  pub short : length ws ≤ 2 ^ 20
-  pub head : headFaulty ws ≡ false
-  pub date : dateFaulty ws ≡ false
-  pub room : headOf ws .protections ≤ entries
-  pub number : itemsOf ws .number ≡ 0
-  pub read : itemsOf ws .records ≡ items
-  pub fits : settle (map entryOf (protectionsOf ws .records)) (drawsOver (itemsOf ws .records)) ≡ settled left
+  pub reading : ReadAs ws rows entries items
+  pub fits : settle (map entryOf (protectionsOf ws .records)) (drawsOver items) ≡ settled left
 
 -- an outcome of another form
 early-not : {X : Type 0} (number : ℕ) (items : List Placed) (left : List Entry) → early number ≡ accepted items left → X
@@ -54,17 +49,26 @@ accepted-is ws rows entries items left e = go (ltb rows 22) refl (ltb (2 ^ 20) (
     go false p false q false r true t d s h = early-not 16 items left h
     go false p false q false r false t true s h = early-not 4 items left h
     go false p false q false r false t false s h =
-        let j = judged-is (itemsOf ws) _ items left h in
+        let j = judged-is (itemsOf ws) (settle (map entryOf (protectionsOf ws .records)) (drawsOver (itemsOf ws .records))) items left h in
         record {
-          rows-enough = ltb-false rows 22 p;
-          short = ltb-false (2 ^ 20) (length ws) q;
-          head = r;
-          date = t;
-          room = ltb-false entries _ s;
-          number = j .0;
-          read = j .1;
-          fits = j .2;
+          reading = record {
+            rows-enough = ltb-false rows 22 p;
+            short = ltb-false (2 ^ 20) (length ws) q;
+            head = r;
+            date = t;
+            room = ltb-false entries _ s;
+            number = j .0;
+            read = j .1;
+          };
+          fits = rw (j .1) at (j .2);
         }
+
+-- and back
+pub is-accepted : (ws : List ℕ) (rows entries : ℕ) (items : List Placed) (left : List Entry) → Accepted ws rows entries items left → outcomeOf ws rows entries ≡ accepted items left
+unfolding outcomeOf admission recordsOutcome
+is-accepted ws rows entries items left a =
+    let r = a .reading in
+    rw (le-ltb rows 22 (r .rows-enough), le-ltb (2 ^ 20) (length ws) (r .short), r .head, r .date, le-ltb entries (headOf ws .protections) (r .room), r .read, a .fits, r .number) refl
 
 -- ---- a refusal has a number that is not 0
 

@@ -10,7 +10,7 @@ use Rattle.rules.specs.declared.Sums.{Sums}
 use Rattle.rules.specs.Factors.{conversionOf}
 use Rattle.rules.specs.Weighted.{weightedOf}
 use Rattle.rules.specs.Book.{Asset, DerivativeSet, FinancingTrade, FinancingSet, Item, asset, derivatives, financing, offBalance, Placed, total}
-use Rattle.rules.specs.Read.{headOf, itemsOf}
+use Rattle.rules.specs.Read.{headOf}
 use Rattle.rules.specs.Weigh.{Tally, netOf, marginOffsets, replacementOf, weightedIn, writtenIn, coversIn, cashNetted, excessOf}
 use Rattle.rules.specs.Rows.{assetRows, tallyIn, grossWeighted, keptWeighted, row1, row2, row4, row5, row6, row7, row8, row9, row10, row12, row13, row14, row15, row17, row18, sumOver, sumsOf, onBalance, ofDerivativeRows, ofFinancingRows, ofOffBalanceRows, exposureRow}
 use Rattle.rules.specs.Filing.{outcomeOf, accepted}
@@ -122,7 +122,7 @@ pub accepted-balance : (ws : List ℕ) (rows entries : ℕ) (items : List Placed
     → sumOver (ups (headOf ws .bands)) items ≡ sumOver (exposureOf (headOf ws .bands)) items + sumOver (downs (headOf ws .bands)) items
 accepted-balance ws rows entries items left e =
     let a = accepted-is ws rows entries items left e in
-    book-balance (headOf ws .bands) items (rw (a .read) at (valid-items ws)) (rw (a .read) at (book-within (itemsOf ws .records) (all-within _ _ left (a .fits))))
+    book-balance (headOf ws .bands) items (rw (a .reading .read) at (valid-items ws)) (book-within items (all-within _ _ left (a .fits)))
 
 -- the sums of the rows are the rows of the sums
 pub ups-are : (bands : Bands) (ps : List Placed)

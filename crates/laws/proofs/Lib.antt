@@ -1,6 +1,7 @@
 pub mod Accepted
 pub mod Financing
 pub mod Valid
+pub mod Each
 pub mod Settling
 pub mod Protections
 pub mod FactorBounds

@@ -42,7 +42,7 @@ protection-filled ws at = if (leb (length ws) at) bads (if (not (eqb (kindOf (wo
     sounds (suc fault) = bads
 
 -- without a fault in the items there is none in the protections
-no-fault-before : (ws : List ℕ) → itemsOf ws .number ≡ 0 → protectionsOf ws .number ≡ 0
+pub no-fault-before : (ws : List ℕ) → itemsOf ws .number ≡ 0 → protectionsOf ws .number ≡ 0
 unfolding itemsOf
 no-fault-before ws e = go (eqb (protectionsOf ws .number) 0) refl e
   where

@@ -1,1 +1,2 @@
 pub mod Exposure
+pub mod ReadAs

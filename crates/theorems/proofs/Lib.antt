@@ -1,4 +1,3 @@
 pub mod SamplesHold
-pub mod Conserve
 pub mod Signed
 pub mod RowBounds

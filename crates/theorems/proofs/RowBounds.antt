@@ -122,7 +122,7 @@ head-words ws e = ltb-false (length ws) firstRecord (or-left (ltb (length ws) fi
 
 module _ (ws : List ℕ) (rows entries : ℕ) (items : List Placed) (left : List Entry) (a : Accepted ws rows entries items left) (bands : Bands) where
   weight-small : sumOver (itemWeight bands) items ≤ 2 ^ 61
-  weight-small = omega (arith, rw (a .read) at (items-small bands ws (head-words ws (a .head))), a .short)
+  weight-small = omega (arith, rw (a .reading .read) at (items-small bands ws (head-words ws (a .reading .head))), a .reading .short)
 
   rows-small : sumOver (allRows bands) items ≤ 2 ^ 61
   rows-small = omega (arith, weight-small, total-le-all (λ (p : Placed). allRows bands (p .item)) (λ (p : Placed). itemWeight bands (p .item)) (λ p. rows-at-most bands (p .item)) items)

@@ -1,2 +1,2 @@
 // Theorems about the definitions of the crate `rules` that no crate with code cites: the samples of document 01 (specs/Samples), the heads
-// that request A.2 speaks of (specs/Heads), the bounds of the rows and the conservation of protection (specs/Claims).
+// that request A.2 speaks of (specs/Heads), and the bounds of the rows (specs/Claims).

@@ -21,13 +21,12 @@ use Rattle.rules.proofs.Lists.{Pairs}
 use Rattle.rules.proofs.Weighted.{two-fifths, five-at-most}
 use Rattle.rules.proofs.Ratios.{ratio-falls, verdict-kept}
 use Rattle.laws.proofs.Accepted.{accepted-is, Numbered, numbered}
-use Rattle.laws.proofs.Accepted
 use Rattle.laws.proofs.ExposureSum.{exposure-is-sum}
 use Rattle.two_desks.proofs.Related.{MorePlaced}
+use Rattle.two_desks.proofs.Amounts.{marked}
 use Rattle.two_desks.proofs.Plain.{head-same}
 use Rattle.two_desks.proofs.Less.{exposure-less}
 use Rattle.two_desks.proofs.Outcomes.{Outcomes, outcomes}
-use Rattle.two_desks.proofs.Outcomes
 
 -- ---- the share of 40% to 100% is a law of the weighted add-on, of any derivative set
 
@@ -57,7 +56,7 @@ shares bands (p ∷ ps) = (share-of-item bands (p .item), shares bands ps)
 module _ (xs ys : List ℕ) (l : MoreRecognised xs ys) (rows entries : ℕ) (ps qs : List Placed) (left : List Entry)
     (a : outcomeOf xs rows entries ≡ accepted ps left) (b : outcomeOf ys rows entries ≡ accepted qs left) (r : Pairs MorePlaced ps qs) where
   same-head : headOf xs ≡ headOf ys
-  same-head = head-same xs ys l (accepted-is xs rows entries ps left a .head)
+  same-head = head-same xs ys (marked l) (accepted-is xs rows entries ps left a .reading .head)
 
   row-less : exposureRow (sumsOf (headOf xs .bands) qs) ≤ℤ exposureRow (sumsOf (headOf xs .bands) ps)
   row-less =

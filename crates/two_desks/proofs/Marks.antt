@@ -7,9 +7,11 @@ use native.Mathlib.Nat.{le-div-iff-mul-le}
 use borrow.Author.Tests.{leb-true, leb-false, eqb-true, eq-eqb}
 use lib.Dec.{leb, eqb}
 use lib.Pow.{shr-shr, field, pow-pos}
-use Rattle.rules.specs.Word.{kindOf, payloadOf, bitOf, amountsIn, marksByKind, marksOfKind, marksIn}
+use Rattle.rules.specs.Word.{kindOf, payloadOf, bitOf, marksByKind, marksOfKind, marksIn}
 use Rattle.rules.proofs.Lists.{table-at-most}
 use Rattle.rules.specs.TwoDesks.{MoreMarks}
+use Rattle.cuts.specs.Words.{Shape}
+use Rattle.cuts.proofs.Shape.{names-shape}
 
 -- a word has at most six marks
 marks-most : (w : ℕ) → marksIn w ≤ 6
@@ -27,8 +29,9 @@ module _ {a b : ℕ} (m : MoreMarks a b) where
   pub kind-same : kindOf a ≡ kindOf b
   kind-same = above-same 28 (omega (arith, marks-most a))
 
-  pub amounts-in-same : amountsIn a ≡ amountsIn b
-  amounts-in-same = rw (kind-same, ap (λ (n : ℕ). n % 2 ^ 6) (above-same 6 (marks-most a)))
+  -- and so are a basket's names, whose bits are above the marks of any word
+  pub same-shape : Shape a b
+  same-shape = names-shape a b kind-same (ap (λ (n : ℕ). n % 2 ^ 6) (above-same 6 (marks-most a)))
 
   -- a word without marks is the same
   pub plain : marksIn a ≡ 0 → a ≡ b

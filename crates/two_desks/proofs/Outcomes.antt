@@ -13,10 +13,9 @@ use Rattle.rules.specs.Register.{entryOf, drawsOf, drawsIn, drawsOver, Settled,
 use Rattle.rules.specs.Filing.{Outcome, early, refused, accepted, judged, recordsOutcome, admission, outcomeOf}
 use Rattle.rules.specs.TwoDesks.{MoreRecognised}
 use Rattle.rules.proofs.Lists.{Pairs}
-use Rattle.rules.proofs.Lists
 use Rattle.rules.proofs.Runs.{Both}
 use Rattle.two_desks.proofs.Related.{MoreItem, MorePlaced}
-use Rattle.two_desks.proofs.Related
+use Rattle.two_desks.proofs.Amounts.{marked}
 use Rattle.two_desks.proofs.Plain.{head-faulty-same, date-faulty-same, head-same, protections-same}
 use Rattle.two_desks.proofs.Readings.{items-both}
 
@@ -52,13 +51,13 @@ module _ (xs ys : List ℕ) (l : MoreRecognised xs ys) where
   records-both : headFaulty xs ≡ false → Outcomes (recordsOutcome xs) (recordsOutcome ys)
   unfolding recordsOutcome
   records-both h =
-      let b = items-both xs ys l h in
-      rw (← protections-same xs ys l h, ← same-draws (b .records)) (judged-both (itemsOf xs) (itemsOf ys) (settle (map entryOf (protectionsOf xs .records)) (drawsOver (itemsOf xs .records))) b)
+      let b = items-both xs ys (marked l) h in
+      rw (← protections-same xs ys (marked l) h, ← same-draws (b .records)) (judged-both (itemsOf xs) (itemsOf ys) (settle (map entryOf (protectionsOf xs .records)) (drawsOver (itemsOf xs .records))) b)
 
   pub outcomes : (rows entries : ℕ) → Outcomes (outcomeOf xs rows entries) (outcomeOf ys rows entries)
   unfolding outcomeOf admission
   outcomes rows entries =
-      rw (← l .long, ← head-faulty-same xs ys l, ← date-faulty-same xs ys l) (go (ltb rows 22) (ltb (2 ^ 20) (length xs)) (headFaulty xs) refl (dateFaulty xs))
+      rw (← l .long, ← head-faulty-same xs ys (marked l), ← date-faulty-same xs ys (marked l)) (go (ltb rows 22) (ltb (2 ^ 20) (length xs)) (headFaulty xs) refl (dateFaulty xs))
     where
       rest : headFaulty xs ≡ false → (d : Bool) → Outcomes (cond d (early 4) (recordsOutcome xs)) (cond d (early 4) (recordsOutcome ys))
       rest h true = earlies
@@ -71,4 +70,4 @@ module _ (xs ys : List ℕ) (l : MoreRecognised xs ys) where
       go false true c h e = earlies
       go false false true h e = earlies
       go false false false h true = earlies
-      go false false false h false = rw (← head-same xs ys l h) (rest h (ltb entries (headOf xs .protections)))
+      go false false false h false = rw (← head-same xs ys (marked l) h) (rest h (ltb entries (headOf xs .protections)))

@@ -1,30 +1,27 @@
 -- Two books that differ in marks at most are read alike: the same faults at the same places, and items that differ in marks at most.
 -- No cause looks at a mark. Assumes nothing.
 use Prim.Native.Nat.{ℕ, suc, _^_, _≤_, _<_}
-use mathlib.Core.Path.{_≡_, refl, _∙_, ap}
-use mathlib.Core.Bool.{Bool, true, false, cond}
+use mathlib.Core.Path.{_≡_, refl, ap}
+use mathlib.Core.Bool.{false}
 use mathlib.Core.List.{List}
 use native.Mathlib.Omega.{arith}
-use borrow.Author.Tests.{eqb-true}
-use lib.Dec.{leb, eqb, lit<, lit≤}
+use lib.Dec.{leb, lit<, lit≤}
 use lib.ListN.{length, drop}
 use Rattle.rules.specs.Word.{word, kindOf, payloadOf, bitOf, sizeOf, marksOfKind}
-use Rattle.rules.specs.Book.{FinancingTrade, Item, asset, financing}
-use Rattle.rules.specs.Run.{Turn, over, some, Run, ended, runFrom, sound}
+use Rattle.rules.specs.Book.{FinancingTrade, Item, financing}
+use Rattle.rules.specs.Run.{Turn, over, some, Run}
 use Rattle.rules.specs.Faults.{assetFault, derivativeSetFault, financingSetFault, financingTradeFault}
-use Rattle.rules.specs.Read.{assetAt, assetTurn, memberTurn, derivativeSetAt, derivativeSetTurn, financingTradeAt, financingTradeTurn, financingMemberTurn, financingSetAt, financingSetTurn, offBalanceAt, offBalanceTurn, itemOf, placed, endFault, itemTurn, protectionsOf, itemsOf, headFaulty}
-use Rattle.rules.specs.TwoDesks.{MoreRecognised}
-use Rattle.rules.proofs.Runs.{Turns, Both, both-run, sounds, choices}
-use Rattle.rules.proofs.Runs
-use Rattle.rules.proofs.Lists.{Pairs}
-use Rattle.rules.proofs.Lists
-use Rattle.two_desks.proofs.Marks.{kind-same, payload-same, bit-same, mark-kept}
+use Rattle.rules.specs.Read.{assetAt, assetTurn, memberTurn, derivativeSetAt, derivativeSetTurn, financingTradeAt, financingTradeTurn, financingMemberTurn, financingSetAt, financingSetTurn, offBalanceAt, offBalanceTurn, itemOf, placed, endFault, itemTurn, itemsOf, headFaulty}
+use Rattle.rules.specs.TwoDesks.{MoreMarks}
+use Rattle.rules.proofs.Runs.{Turns, Both, both-run}
+use Rattle.cuts.specs.Words.{Wordwise}
+use Rattle.cuts.proofs.Shape.{wordwise-drop, run-same, record-turns, stands-turns, item-turns, place-turns, both-items}
+use Rattle.two_desks.proofs.Marks.{payload-same, bit-same, mark-kept}
 use Rattle.two_desks.proofs.Related.{Kept, MoreTrade, MoreItem, MorePlaced}
-use Rattle.two_desks.proofs.Related
-use Rattle.two_desks.proofs.Amounts.{drop-more, word-same, amount-same, last-days-same, stands-turns, record-turns}
-use Rattle.two_desks.proofs.Plain.{run-same, member-same, protections-same}
+use Rattle.two_desks.proofs.Amounts.{shape, word-same, amount-same, last-days-same}
+use Rattle.two_desks.proofs.Plain.{member-same, protections-same}
 
-module _ (xs ys : List ℕ) (l : MoreRecognised xs ys) where
+module _ (xs ys : List ℕ) (l : Wordwise MoreMarks xs ys) where
   -- at a word of a known kind: marks stay set, and what is above them is the same
   module _ (at kind : ℕ) (k : kindOf (word xs at) ≡ kind) where
     kept : (i : ℕ) → i < marksOfKind kind → Kept (bitOf i (word xs at)) (bitOf i (word ys at))
@@ -39,7 +36,7 @@ module _ (xs ys : List ℕ) (l : MoreRecognised xs ys) where
   asset-turns : kindOf (word xs 0) ≡ 2 → Turns MoreItem (assetTurn xs) (assetTurn ys)
   unfolding assetTurn assetAt assetFault
   asset-turns k =
-      record-turns xs ys l MoreItem 2 0 _ _ _ _ k
+      record-turns (shape l) MoreItem 2 0 _ _ _ _ k
       (λ e.
       let a = amount-same xs ys l 3 0 e 0 (omega arith) in
       let b = amount-same xs ys l 3 0 e 1 (omega arith) in
@@ -51,13 +48,13 @@ module _ (xs ys : List ℕ) (l : MoreRecognised xs ys) where
   derivative-turns : kindOf (word xs 0) ≡ 4 → Turns MoreItem (derivativeSetTurn xs) (derivativeSetTurn ys)
   unfolding derivativeSetTurn derivativeSetAt derivativeSetFault
   derivative-turns k =
-      record-turns xs ys l MoreItem 4 0 _ _ _ _ k
+      record-turns (shape l) MoreItem 4 0 _ _ _ _ k
       (λ e.
       let a = amount-same xs ys l 3 0 e 0 (omega arith) in
       let b = amount-same xs ys l 3 0 e 1 (omega arith) in
       let c = amount-same xs ys l 3 0 e 2 (omega arith) in (
         rw (payload 0 4 k 6 (lit≤ tt) (lit≤ tt), a, b, c),
-        λ z next. rw (← run next)
+        λ z next. rw (← run-same (memberTurn xs) (memberTurn ys) (member-same xs ys l) (ap suc (l .long)) next)
             (Turns.somes (MoreItem.of-derivatives (record {
               netting = kept 0 4 k 0 (lit< tt);
               notSegregated = kept 0 4 k 1 (lit< tt);
@@ -71,15 +68,12 @@ module _ (xs ys : List ℕ) (l : MoreRecognised xs ys) where
               members = refl;
             }))),
       ))
-    where
-      run : (next : ℕ) → runFrom (memberTurn xs) (suc (length xs)) next ≡ runFrom (memberTurn ys) (suc (length ys)) next
-      run next = run-same (memberTurn xs) (memberTurn ys) (member-same xs ys l) (suc (length xs)) next ∙ ap (λ (n : ℕ). runFrom (memberTurn ys) (suc n) next) (l .long)
 
   -- in a set, whose agent bit is above its mark
   financing-trade-turns : kindOf (word xs 0) ≡ 8 → (at : ℕ) → kindOf (word xs at) ≡ 9 → Turns MoreTrade (financingTradeTurn xs at) (financingTradeTurn ys at)
   unfolding financingTradeTurn financingTradeAt financingTradeFault
   financing-trade-turns h at k =
-      record-turns xs ys l MoreTrade 9 at _ _ _ _ k
+      record-turns (shape l) MoreTrade 9 at _ _ _ _ k
       (λ e.
       let a = amount-same xs ys l 7 at e 0 (omega arith) in
       let b = amount-same xs ys l 7 at e 1 (omega arith) in
@@ -103,12 +97,12 @@ module _ (xs ys : List ℕ) (l : MoreRecognised xs ys) where
 
   financing-member-turns : kindOf (word xs 0) ≡ 8 → (at : ℕ) → Turns MoreTrade (financingMemberTurn xs at) (financingMemberTurn ys at)
   unfolding financingMemberTurn
-  financing-member-turns h at = stands-turns xs ys l MoreTrade 9 at _ _ over over (financing-trade-turns h at) Turns.overs
+  financing-member-turns h at = stands-turns (shape l) MoreTrade 9 at _ _ over over (financing-trade-turns h at) Turns.overs
 
   financing-turns : kindOf (word xs 0) ≡ 8 → Turns MoreItem (financingSetTurn xs) (financingSetTurn ys)
   unfolding financingSetTurn financingSetAt financingSetFault
   financing-turns k =
-      record-turns xs ys l MoreItem 8 0 _ _ _ _ k
+      record-turns (shape l) MoreItem 8 0 _ _ _ _ k
       (λ e. (
         rw (payload 0 8 k 3 (lit≤ tt) (lit≤ tt), bit 0 8 k 1 (lit≤ tt), bit 0 8 k 2 (lit≤ tt)),
         λ z next. rw (← l .long) (go _ _ (both-run MoreTrade (financingMemberTurn xs) (financingMemberTurn ys) (financing-member-turns k) (suc (length xs)) next)),
@@ -128,51 +122,28 @@ module _ (xs ys : List ℕ) (l : MoreRecognised xs ys) where
   off-balance-turns : kindOf (word xs 0) ≡ 10 → Turns MoreItem (offBalanceTurn xs) (offBalanceTurn ys)
   unfolding offBalanceTurn offBalanceAt
   off-balance-turns k =
-      record-turns xs ys l MoreItem 10 0 _ _ _ _ k
+      record-turns (shape l) MoreItem 10 0 _ _ _ _ k
       (λ e.
       let w = word-same xs ys l 0 10 k refl in
       let a = amount-same xs ys l 1 0 e 0 (omega arith) in
       (rw (w, a), λ z next. rw (← w, ← a) (Turns.somes MoreItem.of-off-balance)))
 
-  pub item-turns : Turns MoreItem (itemOf xs) (itemOf ys)
-  unfolding itemOf
-  item-turns =
-      rw (← kind-same (l .at 0))
-      (choices MoreItem (eqb (kindOf (word xs 0)) 2) _ _ _ _ (λ e. asset-turns (eqb-true _ 2 e))
-      (λ _. choices MoreItem (eqb (kindOf (word xs 0)) 4) _ _ _ _ (λ e. derivative-turns (eqb-true _ 4 e))
-      (λ _. choices MoreItem (eqb (kindOf (word xs 0)) 8) _ _ _ _ (λ e. financing-turns (eqb-true _ 8 e))
-      (λ _. choices MoreItem (eqb (kindOf (word xs 0)) 10) _ _ _ _ (λ e. off-balance-turns (eqb-true _ 10 e))
-      (λ _. Turns.bads)))))
+  item-more : Turns MoreItem (itemOf xs) (itemOf ys)
+  item-more = item-turns (shape l) MoreItem asset-turns derivative-turns financing-turns off-balance-turns
 
 placed-turns : (at : ℕ) {t u : Turn Item} → Turns MoreItem t u → Turns MorePlaced (placed at t) (placed at u)
 placed-turns at Turns.overs = Turns.overs
 placed-turns at Turns.bads = Turns.bads
 placed-turns at (Turns.somes r) = Turns.somes (record { begin = refl; end = refl; item = r })
 
-module _ (xs ys : List ℕ) (l : MoreRecognised xs ys) where
-  end-turns : (at : ℕ) → kindOf (word xs at) ≡ 15 → Turns MorePlaced (sound (endFault xs at) at over) (sound (endFault ys at) at over)
+module _ (xs ys : List ℕ) (l : Wordwise MoreMarks xs ys) where
+  end-same : (at : ℕ) → kindOf (word xs at) ≡ 15 → endFault xs at ≡ endFault ys at
   unfolding endFault
-  end-turns at k = rw (← same) (sounds MorePlaced (endFault xs at) at over over (λ _. Turns.overs))
-    where
-      same : endFault xs at ≡ endFault ys at
-      same = rw (l .long, word-same xs ys l at 15 k refl)
+  end-same at k = rw (l .long, word-same xs ys l at 15 k refl)
 
   book-turns : (at : ℕ) → Turns MorePlaced (itemTurn xs at) (itemTurn ys at)
-  unfolding itemTurn
-  book-turns at =
-      rw (← l .long, ← kind-same (l .at at))
-      (choices MorePlaced (leb (length xs) at) _ _ _ _ (λ _. Turns.bads)
-      (λ _. choices MorePlaced (eqb (kindOf (word xs at)) 15) _ _ _ _
-      (λ e. end-turns at (eqb-true _ 15 e))
-      (λ _. placed-turns at (item-turns (drop at xs) (drop at ys) (drop-more at xs ys l)))))
+  book-turns at = place-turns (shape l) MorePlaced at (end-same at) (placed-turns at (item-more (drop at xs) (drop at ys) (wordwise-drop at l)))
 
   -- the items of both books, and the first record that is faulty by itself
   pub items-both : headFaulty xs ≡ false → Both MorePlaced (itemsOf xs) (itemsOf ys)
-  unfolding itemsOf
-  items-both h = rw (← protections-same xs ys l h, ← l .long) (go (eqb (protectionsOf xs .number) 0))
-    where
-      go : (b : Bool) → Both MorePlaced
-          (cond b (runFrom (itemTurn xs) (suc (length xs)) (protectionsOf xs .place)) (ended (protectionsOf xs .number) (protectionsOf xs .place)))
-          (cond b (runFrom (itemTurn ys) (suc (length xs)) (protectionsOf xs .place)) (ended (protectionsOf xs .number) (protectionsOf xs .place)))
-      go true = both-run MorePlaced (itemTurn xs) (itemTurn ys) book-turns (suc (length xs)) (protectionsOf xs .place)
-      go false = record { records = Pairs.none; number = refl; place = refl }
+  items-both h = let p = protections-same xs ys l h in both-items (shape l) MorePlaced (ap (λ r. r .number) p) (ap (λ r. r .place) p) book-turns

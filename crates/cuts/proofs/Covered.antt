@@ -1,0 +1,84 @@
+-- A book and the same one with further covers put in: how their words are related, and how what is read of them is. Assumes nothing.
+use Prim.Native.Nat.{ℕ}
+use mathlib.Core.Path.{_≡_}
+use mathlib.Core.List.{List, [], _∷_, _++_}
+use Rattle.rules.specs.Book.{Trade, Basket, Cover, WrittenCredit, Member, trade, written, basket, DerivativeSet, Item, derivatives, Placed}
+use Rattle.rules.specs.Read.{headOf, protectionsOf, itemsOf}
+use Rattle.rules.proofs.Lists.{Pairs}
+use Rattle.cuts.specs.Words.{Inserted}
+
+-- the same words before both
+pub same-before : (ws : List ℕ) {xs ys : List ℕ} → Inserted xs ys → Inserted (ws ++ xs) (ws ++ ys)
+same-before [] r = r
+same-before (a ∷ ws) r = Inserted.same (same-before ws r)
+
+-- ---- what is read of them
+
+-- the covers of the first are among those of the second, in their order: one of both, whose places may differ, or one of the second alone
+pub data MoreCovers : List Cover → List Cover → Type 0 where
+  none : MoreCovers [] []
+  both : {c d : Cover} {cs ds : List Cover} → c .protection ≡ d .protection → c .amount ≡ d .amount → MoreCovers cs ds → MoreCovers (c ∷ cs) (d ∷ ds)
+  further : {d : Cover} {cs ds : List Cover} → MoreCovers cs ds → MoreCovers cs (d ∷ ds)
+
+-- a written credit without its covers
+abbrev pub coverless : WrittenCredit → WrittenCredit
+coverless w = record {
+  entity = w .entity;
+  rank = w .rank;
+  qualifying = w .qualifying;
+  totalReturn = w .totalReturn;
+  closeOut = w .closeOut;
+  gain = w .gain;
+  loss = w .loss;
+  notional = w .notional;
+  lossTaken = w .lossTaken;
+  days = w .days;
+  premiums = w .premiums;
+  covers = [];
+}
+
+-- equal but for further covers
+pub record CoveredCredit (w v : WrittenCredit) : Type 0 where
+  pub alike : coverless w ≡ coverless v
+  pub covers : MoreCovers (w .covers) (v .covers)
+
+-- a trade and a basket have no covers
+pub data CoveredMember : Member → Member → Type 0 where
+  of-trade : {t : Trade} → CoveredMember (trade t) (trade t)
+  of-credit : {w v : WrittenCredit} → CoveredCredit w v → CoveredMember (written w) (written v)
+  of-basket : {b : Basket} → CoveredMember (basket b) (basket b)
+
+-- a derivative set without its members
+abbrev pub memberless : DerivativeSet → DerivativeSet
+memberless s = record {
+  netting = s .netting;
+  notSegregated = s .notSegregated;
+  daily = s .daily;
+  sameCurrency = s .sameCurrency;
+  fullAmount = s .fullAmount;
+  exempt = s .exempt;
+  received = s .received;
+  paid = s .paid;
+  posted = s .posted;
+  members = [];
+}
+
+-- equal but for further covers of members
+pub record CoveredSet (s t : DerivativeSet) : Type 0 where
+  pub alike : memberless s ≡ memberless t
+  pub members : Pairs CoveredMember (s .members) (t .members)
+
+-- the same item, as any asset, financing set or off-balance item is; or two such sets
+pub data CoveredItem : Item → Item → Type 0 where
+  same : {i : Item} → CoveredItem i i
+  of-set : {s t : DerivativeSet} → CoveredSet s t → CoveredItem (derivatives s) (derivatives t)
+
+-- wherever the two stand
+abbrev pub CoveredPlaced : Placed → Placed → Type 0
+CoveredPlaced p q = CoveredItem (p .item) (q .item)
+
+-- the same head, the same protections, and items side by side
+pub record FurtherCovered (xs ys : List ℕ) : Type 0 where
+  pub head : headOf xs ≡ headOf ys
+  pub protections : protectionsOf xs .records ≡ protectionsOf ys .records
+  pub items : Pairs CoveredPlaced (itemsOf xs .records) (itemsOf ys .records)

@@ -1,0 +1,77 @@
+-- Two chains from one place whose records are the same but for one, which holds a place: once for items, members, covers and financing trades.
+-- Assumes nothing.
+use Prim.Native.Nat.{ℕ, _≤_, _<_}
+use mathlib.Core.Path.{_≡_, refl, ap}
+use mathlib.Core.List.{List, [], _∷_, _++_}
+use native.Mathlib.Omega.{arith}
+use native.Mathlib.Decide.{decLt}
+use Rattle.cuts.proofs.Chains.{Chain}
+
+-- the same records but for one, which holds a place
+pub record OneOther {A : Type 0} (J : ℕ → A → A → ℕ → Type 0) (k : ℕ) (l m : List A) : Type 0 where
+  pub before : List A
+  pub first : A
+  pub second : A
+  pub after : List A
+  pub at : ℕ
+  pub next : ℕ
+  pub from : at ≤ k
+  pub below : k < next
+  pub step : J at first second next
+  pub is-first : l ≡ before ++ first ∷ after
+  pub is-second : m ≡ before ++ second ∷ after
+
+-- the same one before both
+one-later : {A : Type 0} {J : ℕ → A → A → ℕ → Type 0} {k : ℕ} {l m : List A} (a : A) → OneOther J k l m → OneOther J k (a ∷ l) (a ∷ m)
+one-later {A} a i = record {
+  before = a ∷ i .before;
+  first = i .first;
+  second = i .second;
+  after = i .after;
+  at = i .at;
+  next = i .next;
+  from = i .from;
+  below = i .below;
+  step = i .step;
+  is-first = ap (λ (v : List A). a ∷ v) (i .is-first);
+  is-second = ap (λ (v : List A). a ∷ v) (i .is-second);
+}
+
+-- records that do not hold the place are the same, and one that does ends where the other does
+pub record Steps {A : Type 0} (R S : ℕ → A → ℕ → Type 0) (Over Under : ℕ → Type 0) (J : ℕ → A → A → ℕ → Type 0) (k : ℕ) : Type 0 where
+  pub onward : (at : ℕ) (a : A) (next : ℕ) → R at a next → at < next
+  pub same : (at : ℕ) (a b : A) (next next′ : ℕ) → (at ≤ k → next ≤ k) → R at a next → S at b next′ → (a ≡ b) × (next ≡ next′)
+  pub step : (at : ℕ) (a b : A) (next next′ : ℕ) → at ≤ k → k < next → R at a next → S at b next′ → (next ≡ next′) × J at a b next
+  pub first-ends : (at : ℕ) (b : A) (next : ℕ) → Over at → S at b next → ⊥
+  pub second-ends : (at : ℕ) (a : A) (next : ℕ) → Under at → R at a next → ⊥
+
+module _ {A : Type 0} {R S : ℕ → A → ℕ → Type 0} {Over Under : ℕ → Type 0} {J : ℕ → A → A → ℕ → Type 0} {k : ℕ} (t : Steps R S Over Under J k) where
+  -- behind the place
+  pub chains-same : {at stop stop′ : ℕ} {l m : List A} → k < at → Chain R at l stop → Over stop → Chain S at m stop′ → Under stop′ → (l ≡ m) × (stop ≡ stop′)
+  chains-same h Chain.done o Chain.done u = (refl, refl)
+  chains-same h (Chain.done {at}) o (Chain.then {next = next} {a = b} s d) u = absurd (t .first-ends at b next o s)
+  chains-same h (Chain.then {at} {next} {a = a} r c) o Chain.done u = absurd (t .second-ends at a next u r)
+  chains-same {stop′ = stop′} h (Chain.then {at} {next} {a = a} {l} r c) o (Chain.then {next = next′} {a = b} {l = m} s d) u =
+      let e = t .same at a b next next′ (λ g. let z : ⊥ = omega arith in absurd z) r s in
+      let d′ : Chain S next m stop′ = rw (e .1) d in
+      let q = chains-same (omega (arith, t .onward at a next r)) c o d′ u in
+      (rw (e .0, q .0), q .1)
+
+  -- around it
+  pub chains-other : {at stop stop′ : ℕ} {l m : List A} → at ≤ k → k < stop → Chain R at l stop → Over stop → Chain S at m stop′ → Under stop′ → (stop ≡ stop′) × OneOther J k l m
+  chains-other h b Chain.done o d u = let z : ⊥ = omega arith in absurd z
+  chains-other h b (Chain.then {at} {next} {a = a} r c) o Chain.done u = absurd (t .second-ends at a next u r)
+  chains-other {stop = stop} {stop′ = stop′} h below (Chain.then {at} {next} {a = a} {l} r c) o (Chain.then {next = next′} {a = b} {l = m} s d) u =
+      go (decLt k next) (λ g d′. chains-other g below c o d′ u)
+    where
+      go : Dec (k < next) → (next ≤ k → Chain S next m stop′ → (stop ≡ stop′) × OneOther J k l m) → (stop ≡ stop′) × OneOther J k (a ∷ l) (b ∷ m)
+      go (yes p) f =
+          let e = t .step at a b next next′ h p r s in
+          let d′ : Chain S next m stop′ = rw (e .0) d in
+          let q = chains-same p c o d′ u in
+          (q .1, record { before = []; first = a; second = b; after = l; at = at; next = next; from = h; below = p; step = e .1; is-first = refl; is-second = rw (q .0) })
+      go (no p) f =
+          let e = t .same at a b next next′ (λ _. omega arith) r s in
+          let d′ : Chain S next m stop′ = rw (e .1) d in
+          let q = f (omega arith) d′ in
+          (q .0, rw (← e .0) (one-later a (q .1)))
