@@ -99,7 +99,8 @@ pub record Changed (move : ℕ → ℕ) (xs ys : List ℕ) (p q : Placed) : Type
   pub back : Stretch move xs ys (p .end) (itemsOf xs .place)
   pub end : EndHere ys (move (itemsOf xs .place))
 
-module _ {move : ℕ → ℕ} (xs ys : List ℕ) (before : List Placed) (p q : Placed) (after : List Placed) (number : itemsOf xs .number ≡ 0) (is : itemsOf xs .records ≡ before ++ p ∷ after) (c : Changed move xs ys p q) where
+module _ {move : ℕ → ℕ} (xs ys : List ℕ) (before : List Placed) (p q : Placed) (after : List Placed)
+    (number : itemsOf xs .number ≡ 0) (is : itemsOf xs .records ≡ before ++ p ∷ after) (c : Changed move xs ys p q) where
   -- A BOOK WITH ONE ITEM CHANGED has the same head and protections, the items before as they were, and those behind at other places
   pub changed-book : (headOf xs ≡ headOf ys) × (protectionsOf xs ≡ protectionsOf ys) × (itemsOf ys ≡ sureRun (before ++ q ∷ map (movedPlaced move) after) (move (itemsOf xs .place)))
   changed-book =
@@ -110,8 +111,8 @@ module _ {move : ℕ → ℕ} (xs ys : List ℕ) (before : List Placed) (p q : P
       let h = head-same xs ys (p .begin) (c .front) (omega arith) in
       let ps = protections-same xs ys (p .begin) (c .front) (omega arith) (omega arith) (k .protections) in
       let many : length (protectionsOf xs .records) ≡ headOf ys .protections = k .many ∙ ap (λ (x : Head). x .protections) h in
-      let first : Chain (ItemHere ys) (itemsBegin xs) before (p .begin)
-      = rw (map-same (movedPlaced stay) (λ r. refl) before) at (items-moved (c .front) (follows-none stay xs ys (p .begin) (here-goes-not ys (p .begin) q _ (c .other))) (omega arith) (omega arith) (rw (← w .0) at (t .before))) in
+      let at-it = follows-none stay xs ys (p .begin) (here-goes-not ys (p .begin) q _ (c .other)) in
+      let first = rw (map-same (movedPlaced stay) (λ r. refl) before) at (items-moved (c .front) at-it (omega arith) (omega arith) (rw (← w .0) at (t .before))) in
       let last = items-moved (c .back) (follows-none move xs ys (itemsOf xs .place) (end-goes-not ys _ (c .end))) (omega arith) (omega arith) (rw (← w .1) at (t .after)) in
       let all = chain-append first (Chain.then (c .other) last) in (
         h,

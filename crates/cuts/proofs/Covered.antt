@@ -1,4 +1,4 @@
--- A book and the same one with further covers put in: how their words are related, and how what is read of them is. Assumes nothing.
+-- What is read of a book and of the same one with further covers put in: how the two are related. Assumes nothing.
 use Prim.Native.Nat.{ℕ}
 use mathlib.Core.Path.{_≡_}
 use mathlib.Core.List.{List, [], _∷_, _++_}
@@ -6,13 +6,12 @@ use Rattle.rules.specs.Book.{Trade, Basket, Cover, WrittenCredit, Member, trade
 use Rattle.rules.specs.Read.{headOf, protectionsOf, itemsOf}
 use Rattle.rules.proofs.Lists.{Pairs}
 use Rattle.cuts.specs.Words.{Inserted}
+use Rattle.cuts.proofs.Moved.{coveredBy}
 
--- the same words before both
+-- the same words before both books
 pub same-before : (ws : List ℕ) {xs ys : List ℕ} → Inserted xs ys → Inserted (ws ++ xs) (ws ++ ys)
 same-before [] r = r
 same-before (a ∷ ws) r = Inserted.same (same-before ws r)
-
--- ---- what is read of them
 
 -- the covers of the first are among those of the second, in their order: one of both, whose places may differ, or one of the second alone
 pub data MoreCovers : List Cover → List Cover → Type 0 where
@@ -20,26 +19,9 @@ pub data MoreCovers : List Cover → List Cover → Type 0 where
   both : {c d : Cover} {cs ds : List Cover} → c .protection ≡ d .protection → c .amount ≡ d .amount → MoreCovers cs ds → MoreCovers (c ∷ cs) (d ∷ ds)
   further : {d : Cover} {cs ds : List Cover} → MoreCovers cs ds → MoreCovers cs (d ∷ ds)
 
--- a written credit without its covers
-abbrev pub coverless : WrittenCredit → WrittenCredit
-coverless w = record {
-  entity = w .entity;
-  rank = w .rank;
-  qualifying = w .qualifying;
-  totalReturn = w .totalReturn;
-  closeOut = w .closeOut;
-  gain = w .gain;
-  loss = w .loss;
-  notional = w .notional;
-  lossTaken = w .lossTaken;
-  days = w .days;
-  premiums = w .premiums;
-  covers = [];
-}
-
 -- equal but for further covers
 pub record CoveredCredit (w v : WrittenCredit) : Type 0 where
-  pub alike : coverless w ≡ coverless v
+  pub alike : coveredBy [] w ≡ coveredBy [] v
   pub covers : MoreCovers (w .covers) (v .covers)
 
 -- a trade and a basket have no covers

@@ -17,11 +17,11 @@ use Rattle.rules.proofs.Lists.{Pairs, or-left}
 use Rattle.cuts.proofs.Chains.{Chain, Cut}
 use Rattle.cuts.proofs.Records.{NoneOf, isCover, CoverRead, isMember, goesOn, MemberRead, FinancingTradeRead, ItemRead, ProtectionRead, writtenFaultAt, derivativeSetFaultAt}
 use Rattle.cuts.proofs.Cutting.{ItemHere, kindOfItem, test-item, itemsBegin, here-kind, here-made, book-cut, cut-protections}
-use Rattle.cuts.proofs.Moved.{movedMember, word-on, whole-moved, cover-moved, member-moved}
+use Rattle.cuts.proofs.Moved.{coveredBy, movedMember, word-on, whole-moved, cover-moved, member-moved}
 use Rattle.cuts.proofs.Local.{stay, follows-kind, item-kept, here-goes-not, end-goes-not}
 use Rattle.cuts.proofs.Changed.{member-no-cover, head-same, protections-same}
 use Rattle.cuts.specs.Words.{Inserted}
-use Rattle.cuts.proofs.Covered.{MoreCovers, coverless, CoveredMember, memberless, CoveredItem, CoveredPlaced, FurtherCovered}
+use Rattle.cuts.proofs.Covered.{MoreCovers, CoveredMember, memberless, CoveredItem, CoveredPlaced, FurtherCovered}
 use Rattle.cuts.proofs.SameWords.{Plain, plain-append, whole-plain, chain-plain, head-plain, front, From, kind-beside, shift, Shifted, whole-beside, cover-beside}
 
 -- ---- what is read of the second, and the first beside it
@@ -102,7 +102,7 @@ module _ (xs ys : List ℕ) where
       let g = rw z at (word-on (s .words) j 5 (omega arith) (omega arith)) in
       let k = rw z at (whole-moved (s .words) 6 (writtenFaultAt ys j) (writtenFaultAt xs i) j (omega arith) (omega arith) (rw (x, a, b, c, d, g)) w) in
       let q = covers-beside (cut .chain) (cut .last) (i + 6) (s .rest) in
-      let l : coverless (writtenAt xs i (q .first)) ≡ coverless (writtenAt ys j covers) = rw (x, a, b, c, d, g) in
+      let l : coveredBy [] (writtenAt xs i (q .first)) ≡ coveredBy [] (writtenAt ys j covers) = rw (x, a, b, c, d, g) in
       record { first = _; end = q .end; read = MemberRead.of-credit k (q .read); more = CoveredMember.of-credit (record { alike = l; covers = q .more }); rest = q .rest }
 
 -- ---- items, in words of their own

@@ -51,7 +51,8 @@ pub whole-within : (kind fault : ℕ) (ws : List ℕ) (at : ℕ) → Whole (suc 
 whole-within kind fault ws at w = omega (arith, lacks-room (amountsAt (suc kind) ws at) ws at (w .amounts) (kind-there ws at kind (w .of)))
 
 -- and what is read at it is what is read behind it
-pub record-made : {A : Type 0} (kind fault : ℕ) (ws : List ℕ) (at : ℕ) (next : ℕ → Turn A) → Whole kind fault ws at → recordThen ws at fault next ≡ next (at + suc (amountsAt kind ws at))
+pub record-made : {A : Type 0} (kind fault : ℕ) (ws : List ℕ) (at : ℕ) (next : ℕ → Turn A) → Whole kind fault ws at
+    → recordThen ws at fault next ≡ next (at + suc (amountsAt kind ws at))
 unfolding recordThen
 record-made kind fault ws at next w = rw (amounts-at (word ws at) (w .of), w .amounts, w .fine)
 
@@ -83,7 +84,8 @@ module _ {A : Type 0} (ws : List ℕ) (at : ℕ) (R : A → ℕ → Type 0) (Ove
       seen-record (suc kind) fault (some a 0) k (λ w. View.one (h w) (omega arith) (whole-within kind fault ws at w))
 
 -- with a run behind it
-module _ {A B : Type 0} {In : ℕ → B → ℕ → Type 0} {Out : ℕ → Type 0} (ws : List ℕ) (turn : ℕ → Turn B) (view : (at : ℕ) → View (length ws) at (In at) (Out at) (turn at)) (wrap : List B → A) where
+module _ {A B : Type 0} {In : ℕ → B → ℕ → Type 0} {Out : ℕ → Type 0} (ws : List ℕ) (turn : ℕ → Turn B)
+    (view : (at : ℕ) → View (length ws) at (In at) (Out at) (turn at)) (wrap : List B → A) where
   -- what begins behind its head
   abbrev pub behind : ℕ → Turn A
   behind next = some (wrap (runFrom turn (suc (length ws)) next .records)) (runFrom turn (suc (length ws)) next .number) (runFrom turn (suc (length ws)) next .place)

@@ -18,29 +18,30 @@ use Rattle.cuts.proofs.Records.{NoneOf, isCover, CoverRead, cover-onwar
 
 -- ---- what is read, with its places moved
 
+-- a written credit with these covers
+abbrev pub coveredBy : List Cover → WrittenCredit → WrittenCredit
+coveredBy covers w = record {
+  entity = w .entity;
+  rank = w .rank;
+  qualifying = w .qualifying;
+  totalReturn = w .totalReturn;
+  closeOut = w .closeOut;
+  gain = w .gain;
+  loss = w .loss;
+  notional = w .notional;
+  lossTaken = w .lossTaken;
+  days = w .days;
+  premiums = w .premiums;
+  covers = covers;
+}
+
 module _ (move : ℕ → ℕ) where
   abbrev pub movedCover : Cover → Cover
   movedCover c = record { at = move (c .at); protection = c .protection; amount = c .amount }
 
-  abbrev pub movedCredit : WrittenCredit → WrittenCredit
-  movedCredit w = record {
-    entity = w .entity;
-    rank = w .rank;
-    qualifying = w .qualifying;
-    totalReturn = w .totalReturn;
-    closeOut = w .closeOut;
-    gain = w .gain;
-    loss = w .loss;
-    notional = w .notional;
-    lossTaken = w .lossTaken;
-    days = w .days;
-    premiums = w .premiums;
-    covers = map movedCover (w .covers);
-  }
-
   abbrev pub movedMember : Member → Member
   movedMember (trade t) = trade t
-  movedMember (written w) = written (movedCredit w)
+  movedMember (written w) = written (coveredBy (map movedCover (w .covers)) w)
   movedMember (basket b) = basket b
 
 -- the words of the one from a place up to another stand in the other, each where `move` takes its place

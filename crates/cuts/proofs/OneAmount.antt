@@ -162,7 +162,8 @@ module _ {xs ys : List ℕ} {k : ℕ} (o : OneAmount xs ys k) where
     onward = λ at m next r. member-onward xs at m next r .0;
     same = λ at m n next next′ h r s.
         let w = member-onward xs at m next r in
-        once (member-made ys at m next (rw (member-stays m) at (member-moved (untouched at next (w .1) h) (λ e. rw (← kinds next) e) at m next (omega arith) (omega arith) r))) (member-made ys at n next′ s);
+        let same = member-moved (untouched at next (w .1) h) (λ e. rw (← kinds next) e) at m next (omega arith) (omega arith) r in
+        once (member-made ys at m next (rw (member-stays m) at same)) (member-made ys at n next′ s);
     step = member-step;
     first-ends = λ at m next e s. none-first isMember at e (member-is ys at m next s);
     second-ends = λ at m next e r. none-second isMember at e (member-is xs at m next r);
@@ -175,10 +176,10 @@ module _ {xs ys : List ℕ} {k : ℕ} (o : OneAmount xs ys k) where
 
   financing-same : (at : ℕ) (t u : FinancingTrade) (next next′ : ℕ) → (at ≤ k → next ≤ k) → FinancingTradeRead xs at t next → FinancingTradeRead ys at u next′ → (t ≡ u) × (next ≡ next′)
   unfolding financingTradeAt
-  financing-same at t u next next′ h (FinancingTradeRead.one w) (FinancingTradeRead.one v) = (rw (o .others at (λ z. omega (arith, h (omega arith))), is 1 (omega arith), is 2 (omega arith), is 3 (omega arith), is 4 (omega arith), is 5 (omega arith), is 6 (omega arith), is 7 (omega arith)), refl)
-    where
-      is : (j : ℕ) → j < 8 → word xs (at + j) ≡ word ys (at + j)
-      is j l = o .others (at + j) (λ z. omega (arith, h (omega arith)))
+  financing-same at t u next next′ h (FinancingTradeRead.one w) (FinancingTradeRead.one v) =
+      let x = o .others at (λ z. omega (arith, h (omega arith))) in
+      let is : (j : ℕ) → j < 8 → word xs (at + j) ≡ word ys (at + j) = λ j l. o .others (at + j) (λ z. omega (arith, h (omega arith))) in
+      (rw (x, is 1 (omega arith), is 2 (omega arith), is 3 (omega arith), is 4 (omega arith), is 5 (omega arith), is 6 (omega arith), is 7 (omega arith)), refl)
 
   financing-steps : Steps (FinancingTradeRead xs) (FinancingTradeRead ys) (NoneOf isFinancingTrade xs) (NoneOf isFinancingTrade ys) (FinancingTradeOther xs ys k) k
   financing-steps = record {

@@ -158,7 +158,9 @@ one-changed = record {
 }
 
 pub carried-items : itemsOf carried .records ≡ take 1 (itemsOf sample .records) ++ assetWith 8 ∷ map (movedPlaced stay) (drop 2 (itemsOf sample .records))
-carried-items = ap (λ r. r .records) (changed-book sample carried (take 1 (itemsOf sample .records)) (assetWith 7) (assetWith 8) (drop 2 (itemsOf sample .records)) (computed .read) (computed .before-it) one-changed .2)
+carried-items =
+    let items = itemsOf sample .records in
+    ap (λ r. r .records) (changed-book sample carried (take 1 items) (assetWith 7) (assetWith 8) (drop 2 items) (computed .read) (computed .before-it) one-changed .2)
 
 two-put : Inserted lessCovered moreCovered
 two-put =

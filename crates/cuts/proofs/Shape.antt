@@ -29,7 +29,10 @@ shape-itself a = record { kind = refl; amounts = refl }
 
 -- the kind decides the shape, but for a basket: of the twelve entries by kind only the last looks at the word
 pub kind-shape : (a b : ℕ) → kindOf a ≡ kindOf b → kindOf a ≢ 11 → Shape a b
-kind-shape a b e n = record { kind = e; amounts = sym (getD-set-other (_ ∷ _ ∷ _ ∷ _ ∷ _ ∷ _ ∷ _ ∷ _ ∷ _ ∷ _ ∷ _ ∷ _ ∷ []) 11 (kindOf a) (namesIn b + 2) 0 n) ∙ ap (λ (k : ℕ). amountsOfKind k b) e }
+kind-shape a b e n = record {
+  kind = e;
+  amounts = sym (getD-set-other (_ ∷ _ ∷ _ ∷ _ ∷ _ ∷ _ ∷ _ ∷ _ ∷ _ ∷ _ ∷ _ ∷ _ ∷ []) 11 (kindOf a) (namesIn b + 2) 0 n) ∙ ap (λ (k : ℕ). amountsOfKind k b) e;
+}
 
 -- two words of one kind with as many names, as two baskets may be
 pub names-shape : (a b : ℕ) → kindOf a ≡ kindOf b → namesIn a ≡ namesIn b → Shape a b
