@@ -4,7 +4,7 @@ use Prim.Native.Nat.{ℕ, _-_, _≤_}
 use mathlib.Core.Path.{_≡_, refl, sym, _∙_, ap}
 use mathlib.Core.Bool.{not, _||_}
 use mathlib.Core.List.{List, [], _∷_}
-use mathlib.Core.Logic.{_↔_}
+use mathlib.Core.Logic.{_↔_, Iff·rfl, Iff·and}
 use native.Mathlib.Omega.{arith}
 use native.Mathlib.Decide.{ℕ-discrete}
 use borrow.Author.Tests.{ltb-false, eqb-true, not-false, le-ltb, lt-leb, eq-eqb, ne-eqb}
@@ -35,35 +35,34 @@ faultless-fits entries d z =
     let brief = ltb (e .days) (d .days) in
     let none = cause-none 11 _ _ (cause-none 10 _ _ z .1) .0 in
     let two = or-left (other || senior) brief none in
-    let f = draw-fits entries d z in
-    record {
-      below = f .inside;
-      entity = eqb-true _ _ (not-false _ (or-left other senior two));
-      rank = ltb-false _ _ (or-right other senior two);
-      days = ltb-false _ _ (or-right (other || senior) brief none);
-      within = f .within;
-    }
+    let f = draw-fits entries d z in (
+      record {
+        below = f .below;
+        same = eqb-true _ _ (not-false _ (or-left other senior two));
+        junior = omega (arith, ltb-false (e .rank) (d .rank) (or-right other senior two));
+        long = omega (arith, ltb-false (e .days) (d .days) (or-right (other || senior) brief none));
+      },
+      f .within,
+    )
 
 fits-faultless : (entries : List Entry) (d : Draw) → FitsIn entries d → d .amount ≤ named entries d .left → drawFault entries d ≡ 0
 unfolding drawFault unfitFor cause
 fits-faultless entries d f h =
     let e = named entries d in
     rw (
-      lt-leb (length entries) (d .protection) (f .below),
-      eq-eqb (e .entity) (d .entity) (f .entity),
-      le-ltb (e .rank) (d .rank) (f .rank),
-      le-ltb (e .days) (d .days) (f .days),
+      lt-leb (length entries) (d .protection) (f .0 .below),
+      eq-eqb (e .entity) (d .entity) (f .0 .same),
+      le-ltb (e .rank) (d .rank) (omega (arith, f .0 .junior)),
+      le-ltb (e .days) (d .days) (omega (arith, f .0 .long)),
       le-ltb (e .left) (d .amount) h,
-      le-ltb (d .room) (d .amount) (f .within),
+      le-ltb (d .room) (d .amount) (f .1),
     )
 
 -- entries less amounts are fitted by the same draws
 fits-less : (entries : List Entry) (f : ℕ → ℕ) (d : Draw) → FitsIn entries d ↔ FitsIn (less entries f) d
 fits-less entries f d =
-    rw (less-at entries f (d .protection), less-length entries f) (
-      λ x. record { below = x .below; entity = x .entity; rank = x .rank; days = x .days; within = x .within },
-      λ x. record { below = x .below; entity = x .entity; rank = x .rank; days = x .days; within = x .within },
-    )
+    rw (less-at entries f (d .protection), less-length entries f)
+    (Iff·and (λ x. record { below = x .below; same = x .same; junior = x .junior; long = x .long }, λ x. record { below = x .below; same = x .same; junior = x .junior; long = x .long }) Iff·rfl)
 
 -- ---- a first draw, and the others after it
 
@@ -89,7 +88,7 @@ module _ (entries : List Entry) (d : Draw) (ds : List Draw) where
   fit-after : AllFit entries (d ∷ ds) → (drawFault entries d ≡ 0) × AllFit (drawn entries d) ds
   fit-after s =
       let f = every-first d ds .0 (s .each) in (
-        fits-faultless entries d (f .0) (omega (arith, taken-named, s .enough (d .protection) (f .0 .below))),
+        fits-faultless entries d (f .0) (omega (arith, taken-named, s .enough (d .protection) (f .0 .0 .below))),
         rw (drawn-is-less entries d) (record {
           each = every-map (λ e h. fits-less entries taken e .0 h) (f .1);
           enough = λ i h. omega (arith, left-at i, s .enough i (omega (arith, less-length entries taken)));

@@ -2,19 +2,17 @@
 -- they did, and leave the same. Assumes nothing.
 use Prim.Native.Nat.{ℕ}
 use mathlib.Core.Path.{_≡_, refl, sym, _∙_, ap}
-use mathlib.Core.List.{List, map}
-use mathlib.Core.Logic.{_↔_}
+use mathlib.Core.List.{List, [], _∷_, map}
 use native.Mathlib.Omega.{arith}
 use Rattle.rules.specs.declared.Bands.{Bands}
 use Rattle.rules.specs.declared.Draw.{Draw}
 use Rattle.rules.specs.declared.Entry.{Entry}
-use Rattle.rules.specs.Book.{Protection, Cover, WrittenCredit, Member, Item, Placed}
-use Rattle.rules.specs.Register.{entryOf, settled, settle}
+use Rattle.rules.specs.Book.{Cover, WrittenCredit, Member, Item, Placed}
+use Rattle.rules.specs.Register.{drawsOver, settled, settle}
 use Rattle.rules.specs.Rows.{sumOver, sumsOf}
-use Rattle.rules.proofs.Lists.{every-map}
-use Rattle.covers.specs.Claims.{drawnBy, drawnIn, drawnOf, FitsIn, drawnAt, drawnOver, BookSettles, SuitsIn, Covered, MemberCovered, ItemCovered}
-use Rattle.covers.specs.Order.{Permuted, DrawAlike, DrawsInAnyOrder, CoverAlike, CreditAlike, MemberAlike, ItemAlike, PlacedAlike, CoversInAnyOrder}
-use Rattle.covers.proofs.Permuted.{permuted-total, permuted-every, permuted-sym, permuted-wider}
+use Rattle.covers.specs.Claims.{drawnBy, drawnIn, drawnOf, FitsIn, drawnAt, drawnOver, CoversFit, MemberCoversFit, ItemCoversFit}
+use Rattle.covers.specs.Order.{Permuted, DrawAlike, DrawsInAnyOrder, CoverAlike, CreditAlike, MemberAlike, ItemAlike, PlacedAlike, CoversInAnyOrder, SameItem}
+use Rattle.covers.proofs.Permuted.{permuted-total, permuted-every, permuted-sym, permuted-map, permuted-wider}
 use Rattle.covers.proofs.Less.{less-same}
 use Rattle.covers.proofs.Draws.{settle-iff}
 use Rattle.covers.proofs.Books.{covers-iff}
@@ -41,13 +39,7 @@ draws-settle entries ds es left p z =
     )
   where
     fits : (d e : Draw) → DrawAlike d e → FitsIn entries d → FitsIn entries e
-    fits d e a f = rw (← a .protection) (record {
-      below = omega (arith, f .below);
-      entity = f .entity ∙ a .entity;
-      rank = omega (arith, f .rank);
-      days = omega (arith, f .days);
-      within = omega (arith, f .within);
-    })
+    fits d e a f = rw (← a .protection, ← a .entity, ← a .rank, ← a .days, ← a .room, ← a .amount) f
 
     sums : (i : ℕ) → drawnOver ds i ≡ drawnOver es i
     sums i = permuted-total (drawnAt i) (λ d e a. rw (a .protection, a .amount)) p
@@ -73,24 +65,18 @@ item-sym x y (ItemAlike.sets p) = ItemAlike.sets (permuted-sym member-sym p)
 
 -- ---- what is alike is covered alike, and draws alike
 
-module _ (bought : List Protection) where
-  credit-covered : (v w : WrittenCredit) → CreditAlike v w → Covered bought v → Covered bought w
+module _ (entries : List Entry) where
+  credit-covered : (v w : WrittenCredit) → CreditAlike v w → CoversFit entries v → CoversFit entries w
   credit-covered v w a k = record {
-    each = permuted-every another (a .covers) (every-map suits (k .each));
-    within = omega (arith, permuted-total (λ (c : Cover). c .amount) (λ c d e. e .amount) (a .covers), k .within, a .room);
+    each = rw (← a .entity, ← a .rank, ← a .days) (permuted-every (λ c d e s. rw (← e .protection) s) (a .covers) (k .each));
+    within = omega (arith, permuted-total (λ (c : Cover). c .amount) (λ c d e. omega (arith, e .amount)) (a .covers), k .within, a .room);
   }
-    where
-      suits : (c : Cover) → SuitsIn bought v c → SuitsIn bought w c
-      suits c s = record { below = s .below; entity = s .entity ∙ a .entity; rank = omega (arith, s .rank, a .rank); days = omega (arith, s .days, a .days) }
 
-      another : (c d : Cover) → CoverAlike c d → SuitsIn bought w c → SuitsIn bought w d
-      another c d e s = rw (← e .protection) (record { below = omega (arith, s .below, e .protection); entity = s .entity; rank = s .rank; days = s .days })
-
-  member-covered : (m n : Member) → MemberAlike m n → MemberCovered bought m → MemberCovered bought n
+  member-covered : (m n : Member) → MemberAlike m n → MemberCoversFit entries m → MemberCoversFit entries n
   member-covered m n MemberAlike.same k = k
   member-covered m n (MemberAlike.credits {v} {w} a) k = credit-covered v w a k
 
-  item-covered : (x y : Item) → ItemAlike x y → ItemCovered bought x → ItemCovered bought y
+  item-covered : (x y : Item) → ItemAlike x y → ItemCoversFit entries x → ItemCoversFit entries y
   item-covered x y ItemAlike.same k = k
   item-covered x y (ItemAlike.sets p) k = permuted-every member-covered p k
 
@@ -105,13 +91,13 @@ module _ (i : ℕ) where
 
 -- ---- books
 
-items-settle : (bought : List Protection) (ps qs : List Placed) (left : List Entry) → Permuted PlacedAlike ps qs
-    → BookSettles bought ps left → BookSettles bought qs left
-items-settle bought ps qs left a z =
-    let s = covers-iff bought ps left .0 z in
-    covers-iff bought qs left .1 (
-      record { each = permuted-every (λ p q. item-covered bought (p .item) (q .item)) a (s .0 .each); enough = λ i h. omega (arith, sums i, s .0 .enough i h) },
-      s .1 ∙ less-same (map entryOf bought) _ _ sums,
+items-settle : (entries : List Entry) (ps qs : List Placed) (left : List Entry) → Permuted PlacedAlike ps qs
+    → settle entries (drawsOver ps) ≡ settled left → settle entries (drawsOver qs) ≡ settled left
+items-settle entries ps qs left a z =
+    let s = covers-iff entries ps left .0 z in
+    covers-iff entries qs left .1 (
+      record { each = permuted-every (λ p q. item-covered entries (p .item) (q .item)) a (s .0 .each); enough = λ i h. omega (arith, sums i, s .0 .enough i h) },
+      s .1 ∙ less-same entries _ _ sums,
     )
   where
     sums : (i : ℕ) → sumOver (drawnOf i) ps ≡ sumOver (drawnOf i) qs
@@ -119,16 +105,21 @@ items-settle bought ps qs left a z =
 
 -- items alike settle alike, in whatever order and at whatever places they stand
 pub items-any-order : CoversInAnyOrder
-items-any-order bought ps qs left a = (items-settle bought ps qs left a, items-settle bought qs ps left (permuted-sym (λ p q. item-sym (p .item) (q .item)) a))
+items-any-order entries ps qs left a = (items-settle entries ps qs left a, items-settle entries qs ps left (permuted-sym (λ p q. item-sym (p .item) (q .item)) a))
 
--- the same item at another place
-abbrev pub SameItem : Placed → Placed → Type 0
-SameItem p q = p .item ≡ q .item
+-- items in another order, wherever each of them stands
+pub items-permuted : (ps qs : List Placed) → Permuted (λ (x y : Item). x ≡ y) (map (λ (p : Placed). p .item) ps) (map (λ (q : Placed). q .item) qs) → Permuted SameItem ps qs
+items-permuted ps qs p = Permuted.trans (bare ps) (Permuted.trans (permuted-map somewhere (λ x y e. e) p) (permuted-sym (λ p q e. sym e) (bare qs)))
+  where
+    somewhere : Item → Placed
+    somewhere x = record { begin = 0; end = 0; item = x }
 
--- the same items in another order settle alike
-pub rearranged-settle : (bought : List Protection) (ps qs : List Placed) (left : List Entry) → Permuted SameItem ps qs
-    → BookSettles bought ps left ↔ BookSettles bought qs left
-rearranged-settle bought ps qs left s = items-any-order bought ps qs left (permuted-wider (λ p q e. rw (← e) ItemAlike.same) s)
+    bare : (rs : List Placed) → Permuted SameItem rs (map somewhere (map (λ (r : Placed). r .item) rs))
+    bare [] = Permuted.none
+    bare (r ∷ rs) = Permuted.more refl (bare rs)
+
+pub same-alike : {ps qs : List Placed} → Permuted SameItem ps qs → Permuted PlacedAlike ps qs
+same-alike s = permuted-wider (λ p q e. rw (← e) ItemAlike.same) s
 
 -- and come to the same sums, of which the rows are made, and with Tier 1 the verdict
 pub rearranged-sums : (bands : Bands) (ps qs : List Placed) → Permuted SameItem ps qs → sumsOf bands ps ≡ sumsOf bands qs

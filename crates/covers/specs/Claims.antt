@@ -1,8 +1,8 @@
--- What is claimed of covers: protection is conserved; which draws settle, and which covers of a book, is said by sums. Assumes nothing.
+-- What is claimed of covers: protection is conserved, and sums decide which draws settle and which covers of a book do. Assumes nothing.
 use Prim.Native.Nat.{ℕ, suc, _+_, _-_, _≤_, _<_}
 use mathlib.Core.Path.{_≡_}
 use mathlib.Core.Bool.{cond}
-use mathlib.Core.List.{List, [], _∷_, map}
+use mathlib.Core.List.{List, [], _∷_}
 use mathlib.Core.Logic.{_↔_}
 use lib.Dec.{eqb}
 use lib.ListN.{length, getD}
@@ -12,13 +12,13 @@ use Rattle.rules.specs.Book.{Protection, Cover, WrittenCredit, Member, trade, w
 use Rattle.rules.specs.Read.{headOf, protectionsOf}
 use Rattle.rules.specs.Weigh.{coveredOf}
 use Rattle.rules.specs.Rows.{sumOver}
-use Rattle.rules.specs.Register.{blank, available, entryOf, drawsOver, drawnFrom, settled, settle}
+use Rattle.rules.specs.Register.{blank, available, drawsOver, drawnFrom, settled, settle}
 use Rattle.rules.specs.Filing.{outcomeOf, accepted}
 use Rattle.rules.proofs.Lists.{Every}
 
 -- ---- conservation
 
--- the amount that covers draw from a protection: of a written credit, a member, an item and a book
+-- the amount drawn from a protection by a cover, a member and an item
 abbrev pub drawnBy : ℕ → Cover → ℕ
 drawnBy protection c = cond (eqb (c .protection) protection) (c .amount) 0
 
@@ -54,16 +54,19 @@ Conservation =
 
 -- ---- draws by their sums
 
--- a draw that names one of b places, suits the entry e there, and is within its room
-pub record Fits (b : ℕ) (e : Entry) (d : Draw) : Type 0 where
-  pub below : d .protection < b
-  pub entity : e .entity ≡ d .entity
-  pub rank : d .rank ≤ e .rank
-  pub days : d .days ≤ e .days
-  pub within : d .amount ≤ d .room
+-- the entry e, one of b, at the place named, suits: "same entity, rank at least the written one's, days at least its days"
+pub record Suits (b : ℕ) (e : Entry) (place entity rank days : ℕ) : Type 0 where
+  pub below : place < b
+  pub same : e .entity ≡ entity
+  pub junior : rank ≤ e .rank
+  pub long : days ≤ e .days
 
+abbrev pub SuitsIn : List Entry → (place entity rank days : ℕ) → Type 0
+SuitsIn entries place entity rank days = Suits (length entries) (getD entries place blank) place entity rank days
+
+-- a draw that suits the entry that it names, and is within its room
 abbrev pub FitsIn : List Entry → Draw → Type 0
-FitsIn entries d = Fits (length entries) (getD entries (d .protection) blank) d
+FitsIn entries d = SuitsIn entries (d .protection) (d .entity) (d .rank) (d .days) × (d .amount ≤ d .room)
 
 -- what a draw takes at a place, and what all of them take there
 abbrev pub drawnAt : ℕ → Draw → ℕ
@@ -88,60 +91,44 @@ SettlesBySums =
     (entries : List Entry) (ds : List Draw) (left : List Entry)
     → (settle entries ds ≡ settled left) ↔ (AllFit entries ds × (left ≡ less entries (drawnOver ds)))
 
--- ---- the covers of a book by their sums
+-- ---- covers by their sums
 
--- the covers of the items all fit, and leave these entries of the protections
-abbrev pub BookSettles : List Protection → List Placed → List Entry → Type 0
-BookSettles bought items left = settle (map entryOf bought) (drawsOver items) ≡ settled left
-
--- the protection at a place; past the last one nothing is bought
-abbrev pub unbought : Protection
-unbought = record { entity = 0; rank = 0; notional = 0; gain = 0; days = 0 }
-
-abbrev pub boughtAt : List Protection → ℕ → Protection
-boughtAt bought i = getD bought i unbought
-
--- a cover of a written credit that names one of b protections, and p, which it names, protects the credit
-pub record Suits (b : ℕ) (p : Protection) (w : WrittenCredit) (c : Cover) : Type 0 where
-  pub below : c .protection < b
-  pub entity : p .entity ≡ w .entity
-  pub rank : w .rank ≤ p .rank
-  pub days : w .days ≤ p .days
-
-abbrev pub SuitsIn : List Protection → WrittenCredit → Cover → Type 0
-SuitsIn bought w c = Suits (length bought) (boughtAt bought (c .protection)) w c
+-- a cover of a written credit that suits the entry that it names
+abbrev pub CoverSuits : List Entry → WrittenCredit → Cover → Type 0
+CoverSuits entries w c = SuitsIn entries (c .protection) (w .entity) (w .rank) (w .days)
 
 -- each of a credit's covers suits, and their sum is within its notional minus loss
-pub record Covered (bought : List Protection) (w : WrittenCredit) : Type 0 where
-  pub each : Every (SuitsIn bought w) (w .covers)
+pub record CoversFit (entries : List Entry) (w : WrittenCredit) : Type 0 where
+  pub each : Every (CoverSuits entries w) (w .covers)
   pub within : coveredOf w ≤ w .notional - w .lossTaken
 
 -- nothing is asked of what has no covers
-abbrev pub MemberCovered : List Protection → Member → Type 0
-MemberCovered bought (trade t) = Unit {0}
-MemberCovered bought (written w) = Covered bought w
-MemberCovered bought (basket b) = Unit {0}
+abbrev pub MemberCoversFit : List Entry → Member → Type 0
+MemberCoversFit entries (trade t) = Unit {0}
+MemberCoversFit entries (written w) = CoversFit entries w
+MemberCoversFit entries (basket b) = Unit {0}
 
-abbrev pub ItemCovered : List Protection → Item → Type 0
-ItemCovered bought (asset a) = Unit {0}
-ItemCovered bought (derivatives s) = Every (MemberCovered bought) (s .members)
-ItemCovered bought (financing s) = Unit {0}
-ItemCovered bought (offBalance o) = Unit {0}
+abbrev pub ItemCoversFit : List Entry → Item → Type 0
+ItemCoversFit entries (asset a) = Unit {0}
+ItemCoversFit entries (derivatives s) = Every (MemberCoversFit entries) (s .members)
+ItemCoversFit entries (financing s) = Unit {0}
+ItemCoversFit entries (offBalance o) = Unit {0}
 
-abbrev pub PlacedCovered : List Protection → Placed → Type 0
-PlacedCovered bought p = ItemCovered bought (p .item)
+abbrev pub PlacedCoversFit : List Entry → Placed → Type 0
+PlacedCoversFit entries p = ItemCoversFit entries (p .item)
 
--- all written credits of a book are covered, and for each protection the sum of the covers that name it is within its available amount
-pub record AllCovered (bought : List Protection) (items : List Placed) : Type 0 where
-  pub each : Every (PlacedCovered bought) items
-  pub enough : (i : ℕ) → i < length bought → sumOver (drawnOf i) items ≤ available (boughtAt bought i)
+-- the covers of every written credit fit, and for each entry the sum of those that name it is within what is left of it
+pub record AllCoversFit (entries : List Entry) (items : List Placed) : Type 0 where
+  pub each : Every (PlacedCoversFit entries) items
+  pub enough : (i : ℕ) → i < length entries → sumOver (drawnOf i) items ≤ getD entries i blank .left
 
--- the register that they leave
-abbrev pub leftBy : List Protection → List Placed → List Entry
-leftBy bought items = less (map entryOf bought) (λ i. sumOver (drawnOf i) items)
+-- the register that the covers of the items leave
+abbrev pub leftBy : List Entry → List Placed → List Entry
+leftBy entries items = less entries (λ i. sumOver (drawnOf i) items)
 
--- they settle exactly where all is covered, and then each protection is less its sum
+-- the covers of items settle exactly where they all fit, and then each entry is less its sum. For the protections of a book, of which nothing
+-- is drawn yet, what is left is the available amount (`entryOf`).
 abbrev pub CoversBySums : Type 0
 CoversBySums =
-    (bought : List Protection) (items : List Placed) (left : List Entry)
-    → BookSettles bought items left ↔ (AllCovered bought items × (left ≡ leftBy bought items))
+    (entries : List Entry) (items : List Placed) (left : List Entry)
+    → (settle entries (drawsOver items) ≡ settled left) ↔ (AllCoversFit entries items × (left ≡ leftBy entries items))

@@ -1,18 +1,21 @@
 -- What is claimed of the order of covers: neither acceptance nor the register hangs on it. Assumes nothing.
 use Prim.Native.Nat.{ℕ, _-_}
 use mathlib.Core.Path.{_≡_}
-use mathlib.Core.List.{List, [], _∷_}
+use mathlib.Core.List.{List, [], _∷_, map}
 use mathlib.Core.Logic.{_↔_}
+use lib.IntN.{ℤ}
+use lib.ListN.{length}
 use Rattle.rules.specs.declared.Draw.{Draw}
 use Rattle.rules.specs.declared.Entry.{Entry}
-use Rattle.rules.specs.Book.{Protection, Cover, WrittenCredit, Member, written, DerivativeSet, Item, derivatives, Placed}
-use Rattle.rules.specs.Read.{protectionsOf}
-use Rattle.rules.specs.Register.{settled, settle}
-use Rattle.rules.specs.Filing.{accepted, outcomeOf}
+use Rattle.rules.specs.Book.{Cover, WrittenCredit, Member, written, DerivativeSet, Item, derivatives, Placed}
+use Rattle.rules.specs.Read.{headOf, protectionsOf}
+use Rattle.rules.specs.Register.{entryOf, drawsOver, settled, settle}
+use Rattle.rules.specs.Filing.{accepted, outcomeOf, filing}
 use Rattle.laws.specs.ReadAs.{ReadAs}
-use Rattle.covers.specs.Claims.{BookSettles}
+use Rattle.covers.specs.Claims.{AllCoversFit, leftBy}
 
--- two lists of the same elements in another order, each up to a relation; where that is equality, the permutations
+-- two lists of the same elements in another order, each up to a relation; where that is equality, the permutations. The relations below are
+-- equivalences; of another, `trans` would make chains.
 pub data Permuted {A : Type 0} (Rel : A → A → Type 0) : List A → List A → Type 0 where
   none : Permuted Rel [] []
   more : {a b : A} {xs ys : List A} → Rel a b → Permuted Rel xs ys → Permuted Rel (a ∷ xs) (b ∷ ys)
@@ -62,24 +65,29 @@ pub data ItemAlike : Item → Item → Type 0 where
   same : {x : Item} → ItemAlike x x
   sets : {s t : DerivativeSet} → Permuted MemberAlike (s .members) (t .members) → ItemAlike (derivatives s) (derivatives t)
 
--- wherever they stand in the book
+-- items alike, wherever they stand in the book
 abbrev pub PlacedAlike : Placed → Placed → Type 0
 PlacedAlike p q = ItemAlike (p .item) (q .item)
 
--- and so do the covers of items alike in any order
+-- the covers of items alike, in any order, settle alike and leave the same
 abbrev pub CoversInAnyOrder : Type 0
 CoversInAnyOrder =
-    (bought : List Protection) (ps qs : List Placed) (left : List Entry)
+    (entries : List Entry) (ps qs : List Placed) (left : List Entry)
     → Permuted PlacedAlike ps qs
-    → BookSettles bought ps left ↔ BookSettles bought qs left
+    → (settle entries (drawsOver ps) ≡ settled left) ↔ (settle entries (drawsOver qs) ≡ settled left)
+
+-- the same item at another place
+abbrev pub SameItem : Placed → Placed → Type 0
+SameItem p q = p .item ≡ q .item
 
 -- ---- acceptance
 
--- the protections of a book
-abbrev pub boughtIn : List ℕ → List Protection
-boughtIn ws = protectionsOf ws .records
+-- the protections of a book as entries, of which nothing is drawn yet
+abbrev pub boughtIn : List ℕ → List Entry
+boughtIn ws = map entryOf (protectionsOf ws .records)
 
--- of two books with the same protections and items alike up to the order, one is accepted exactly where the other is, and leaves the same
+-- of two books with the same protections and items alike up to the order, one is accepted exactly where the other is, and leaves the same. Of an
+-- accepted one `ReadAs` follows; it is asked of both so that this holds both ways.
 abbrev pub AcceptedInAnyOrder : Type 0
 AcceptedInAnyOrder =
     (vs ws : List ℕ) (rows entries : ℕ) (ps qs : List Placed) (left : List Entry)
@@ -88,3 +96,21 @@ AcceptedInAnyOrder =
     → ReadAs ws rows entries qs
     → Permuted PlacedAlike ps qs
     → (outcomeOf vs rows entries ≡ accepted ps left) ↔ (outcomeOf ws rows entries ≡ accepted qs left)
+
+-- a book is accepted exactly where it is read without a fault and its covers fit by their sums, and the register is what these leave
+abbrev pub AcceptedBySums : Type 0
+AcceptedBySums =
+    (ws : List ℕ) (rows entries : ℕ) (items : List Placed) (left : List Entry)
+    → (outcomeOf ws rows entries ≡ accepted items left) ↔ (ReadAs ws rows entries items × (AllCoversFit (boughtIn ws) items × (left ≡ leftBy (boughtIn ws) items)))
+
+-- of two books with the same head and protections and the same items in another order, of which the first is accepted and the second is read, the
+-- filings are the same: number, place, verdict, rows and register
+abbrev pub FiledInAnyOrder : Type 0
+FiledInAnyOrder =
+    (vs ws : List ℕ) (rows : List ℤ) (register : List Entry) (ps qs : List Placed) (left : List Entry)
+    → headOf vs ≡ headOf ws
+    → boughtIn vs ≡ boughtIn ws
+    → outcomeOf vs (length rows) (length register) ≡ accepted ps left
+    → ReadAs ws (length rows) (length register) qs
+    → Permuted SameItem ps qs
+    → filing vs rows register ≡ filing ws rows register

@@ -1,3 +1,4 @@
+pub mod Amounts
 pub mod Shape
 pub mod Chains
 pub mod Grammar

@@ -11,7 +11,7 @@ use lib.ListN.{length}
 use Rattle.rules.specs.Word.{word, kindOf, namesIn}
 use Rattle.rules.specs.Book.{Protection, Cover, WrittenCredit, Member, trade, written, basket}
 use Rattle.rules.specs.Read.{lacks, protectionAt, coverAt, writtenAt, tradeAt, gradesAt, basketAt}
-use Rattle.laws.proofs.Records.{amount-kind, none-lacking, stretch-same}
+use Rattle.cuts.proofs.Amounts.{amount-kind, none-lacking, stretch-same}
 use Rattle.cuts.proofs.Chains.{Chain, Cut, chain-onward}
 use Rattle.cuts.proofs.Grammar.{Whole, amountsAt}
 use Rattle.cuts.proofs.Records.{NoneOf, isCover, CoverRead, cover-onward, MemberRead, ProtectionRead, coverFaultAt, tradeFaultAt, writtenFaultAt, basketFaultAt, protectionFaultAt}

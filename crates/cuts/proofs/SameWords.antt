@@ -8,15 +8,16 @@ use mathlib.Core.List.{List, _∷_}
 use native.Mathlib.Omega.{arith}
 use native.Mathlib.Decide.{decLt}
 use borrow.Author.Tests.{eqb-true, not-false}
-use lib.Dec.{eqb, ltb}
-use lib.ListN.{length, drop, length-drop}
+use lib.Dec.{eqb}
+use lib.ListN.{drop, length-drop}
 use lib.Seq.{getD-drop, drop-drop}
-use Rattle.rules.specs.Word.{word, kindOf, payloadOf}
+use Rattle.rules.specs.Word.{word, kindOf}
 use Rattle.rules.specs.Read.{firstRecord, headFaulty, dateFaulty, lacks}
-use Rattle.rules.proofs.Lists.{or-left, or-right}
-use Rattle.laws.proofs.Records.{head-word, amount-kind}
+use Rattle.rules.proofs.Lists.{or-left}
+use Rattle.laws.proofs.Records.{head-word}
+use Rattle.cuts.proofs.Amounts.{amount-kind}
 use Rattle.cuts.proofs.Chains.{Chain}
-use Rattle.cuts.proofs.Grammar.{Whole, amountsAt}
+use Rattle.cuts.proofs.Grammar.{head-kinds, Whole, amountsAt}
 use Rattle.cuts.proofs.Records.{NoneOf, isCover}
 use Rattle.cuts.proofs.Moved.{Stretch}
 use Rattle.cuts.proofs.Local.{stay}
@@ -62,17 +63,11 @@ chain-plain ws f (Chain.then {at} {next} {stop} {a} r c) = plain-append ws at ne
 
 -- nor of a good head with a good date
 pub head-plain : (ws : List ℕ) → headFaulty ws ≡ false → dateFaulty ws ≡ false → Plain ws 0 firstRecord
-unfolding headFaulty dateFaulty
+unfolding dateFaulty
 head-plain ws e d =
-    let short = ltb (length ws) firstRecord in
-    let other = not (eqb (kindOf (word ws 0)) 1) in
-    let many = ltb 4096 (payloadOf (word ws 0)) in
-    let tier = not (eqb (kindOf (word ws 1)) 0) in
-    let f = or-left (short || other || many || tier) _ e in
-    let a = eqb-true (kindOf (word ws 0)) 1 (not-false _ (or-right short other (or-left (short || other) many (or-left (short || other || many) tier f)))) in
-    let b = eqb-true (kindOf (word ws 1)) 0 (not-false _ (or-right (short || other || many) tier f)) in
+    let k = head-kinds ws e in
     let c = eqb-true (kindOf (word ws 2)) 0 (not-false _ (or-left (not (eqb (kindOf (word ws 2)) 0)) _ d)) in
-    plain-append ws 0 1 3 (plain-one ws 0 1 (omega arith) (rw a)) (plain-append ws 1 2 3 (plain-one ws 1 2 (omega arith) (rw b)) (plain-one ws 2 3 (omega arith) (rw c)))
+    plain-append ws 0 1 3 (plain-one ws 0 1 (omega arith) (rw (k .0))) (plain-append ws 1 2 3 (plain-one ws 1 2 (omega arith) (rw (k .1))) (plain-one ws 2 3 (omega arith) (rw c)))
 
 -- ---- they are the same in both
 

@@ -11,7 +11,7 @@ use lib.ListN.{drop}
 use lib.Seq.{getD-drop}
 use Rattle.rules.specs.Word.{word, kindOf}
 use Rattle.rules.specs.Book.{total}
-use Rattle.laws.proofs.Records.{amount-kind}
+use Rattle.cuts.proofs.Amounts.{amount-kind}
 use Rattle.cuts.proofs.Chains.{Chain}
 use Rattle.cuts.proofs.Grammar.{Whole, amountsAt}
 

@@ -20,7 +20,7 @@ use Rattle.laws.proofs.Each.{every-first, every-append}
 -- ---- one draw, and all
 
 pub record Fit (entries : List Entry) (d : Draw) : Type 0 where
-  pub inside : d .protection < length entries
+  pub below : d .protection < length entries
   pub enough : d .amount ≤ getD entries (d .protection) blank .left
   pub within : d .amount ≤ d .room
 
@@ -31,7 +31,7 @@ draw-fits entries d e =
     let b = cause-none 11 _ _ (a .1) in
     let c = cause-none 12 _ _ (b .1) in
     record {
-      inside = leb-false _ _ (a .0);
+      below = leb-false _ _ (a .0);
       enough = ltb-false _ _ (or-left (ltb (getD entries (d .protection) blank .left) (d .amount)) (ltb (d .room) (d .amount)) (c .0));
       within = ltb-false _ _ (or-right (ltb (getD entries (d .protection) blank .left) (d .amount)) (ltb (d .room) (d .amount)) (c .0));
     }

@@ -10,7 +10,8 @@ use lib.ListN.{length, take, drop}
 use Rattle.rules.specs.Word.{word, kindOf, sizeOf, marksOfKind}
 use Rattle.rules.specs.Read.{lacks, lastDaysAt}
 use Rattle.rules.specs.TwoDesks.{MoreMarks, MoreRecognised}
-use Rattle.laws.proofs.Records.{lacks-room, amount-kind, stretch-same}
+use Rattle.laws.proofs.Records.{lacks-room}
+use Rattle.cuts.proofs.Amounts.{amount-kind, stretch-same}
 use Rattle.cuts.specs.Words.{Shape, Wordwise}
 use Rattle.cuts.proofs.Shape.{wordwise-map}
 use Rattle.two_desks.proofs.Marks.{kind-same, same-shape, plain-kind}

@@ -7,8 +7,7 @@ use native.Mathlib.Omega.{arith}
 use native.Mathlib.Nat.{mul-le-mul-left}
 use lib.Dec.{eqb}
 use Rattle.rules.specs.declared.Bands.{Bands}
-use Rattle.rules.specs.Weighted.{weightedOf}
-use Rattle.rules.specs.Book.{Asset, Member, DerivativeSet, FinancingTrade, FinancingSet, Item, asset, financing, Placed, total}
+use Rattle.rules.specs.Book.{Asset, Member, DerivativeSet, FinancingTrade, FinancingSet, Item, Placed, total}
 use Rattle.rules.specs.Weigh.{Tally, tallyOf, netOf, marginOffsets, replacementOf, weightedIn, writtenIn, coversIn, onDay, nettedOn, lastDay, cashNetted, excessOf}
 use Rattle.rules.specs.Rows.{assetRows, tallyIn, sumOver}
 use Rattle.rules.proofs.Lists.{Pairs, pairs-total}
@@ -35,6 +34,13 @@ in-more true true x k = omega arith
 in-more true false x k = lost k
 in-more false true x k = omega arith
 in-more false false x k = omega arith
+
+-- the lesser of two where a mark is set
+lesser-kept : (a b : Bool) (x y : ℕ) → Kept a b → x ≤ y → cond b x y ≤ cond a x y
+lesser-kept true true x y k h = omega arith
+lesser-kept true false x y k h = lost k
+lesser-kept false true x y k h = h
+lesser-kept false false x y k h = omega arith
 
 both-kept : (a b c d : Bool) → Kept a b → Kept c d → Kept (a && c) (b && d)
 both-kept true true c d k h = h
@@ -85,13 +91,7 @@ module _ (s t : DerivativeSet) (m : MoreSet s t) where
 
   weighted-less : (y : Tally) (x : ℕ) → weightedIn t y x ≤ weightedIn s y x
   unfolding weightedIn
-  weighted-less y x = go (s .netting) (t .netting) (m .netting)
-    where
-      go : (a b : Bool) → Kept a b → cond b (weightedOf x (y .gains) (netOf y)) x ≤ cond a (weightedOf x (y .gains) (netOf y)) x
-      go true true k = omega arith
-      go true false k = lost k
-      go false true k = at-most x (y .gains) (netOf y) (omega arith)
-      go false false k = omega arith
+  weighted-less y x = lesser-kept (s .netting) (t .netting) _ x (m .netting) (at-most x (y .gains) (netOf y) (omega arith))
 
   -- the members, and so the tally, are the same
   derivative-less : (bands : Bands) → derivativeExposure bands t ≤ derivativeExposure bands s
@@ -160,15 +160,7 @@ module _ (s t : FinancingSet) (m : MoreFinancing s t) where
         ← total-same (λ (x : FinancingTrade). x .received) (λ a b r. r .received) (m .trades),
         ← total-same (λ (x : FinancingTrade). x .lent - x .received) (λ a b r. rw (r .lent, r .received)) (m .trades),
       )
-      (go (s .netting) (t .netting) (m .netting))
-    where
-      go : (a b : Bool) → Kept a b
-          → cond b (total (λ (x : FinancingTrade). x .lent) (s .trades) - total (λ (x : FinancingTrade). x .received) (s .trades)) (total (λ (x : FinancingTrade). x .lent - x .received) (s .trades))
-          ≤ cond a (total (λ (x : FinancingTrade). x .lent) (s .trades) - total (λ (x : FinancingTrade). x .received) (s .trades)) (total (λ (x : FinancingTrade). x .lent - x .received) (s .trades))
-      go true true k = omega arith
-      go true false k = lost k
-      go false true k = excess-sums (s .trades)
-      go false false k = omega arith
+      (lesser-kept (s .netting) (t .netting) _ _ (m .netting) (excess-sums (s .trades)))
 
   financing-less : financingExposure t ≤ financingExposure s
   financing-less =

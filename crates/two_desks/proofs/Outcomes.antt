@@ -52,7 +52,8 @@ module _ (xs ys : List ℕ) (l : MoreRecognised xs ys) where
   unfolding recordsOutcome
   records-both h =
       let b = items-both xs ys (marked l) h in
-      rw (← protections-same xs ys (marked l) h, ← same-draws (b .records)) (judged-both (itemsOf xs) (itemsOf ys) (settle (map entryOf (protectionsOf xs .records)) (drawsOver (itemsOf xs .records))) b)
+      let s = settle (map entryOf (protectionsOf xs .records)) (drawsOver (itemsOf xs .records)) in
+      rw (← protections-same xs ys (marked l) h, ← same-draws (b .records)) (judged-both (itemsOf xs) (itemsOf ys) s b)
 
   pub outcomes : (rows entries : ℕ) → Outcomes (outcomeOf xs rows entries) (outcomeOf ys rows entries)
   unfolding outcomeOf admission

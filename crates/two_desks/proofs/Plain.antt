@@ -5,7 +5,6 @@ use mathlib.Core.Path.{_≡_, refl, _∙_, ap}
 use mathlib.Core.Bool.{Bool, false, not, _||_, cond}
 use mathlib.Core.List.{List}
 use native.Mathlib.Omega.{arith}
-use borrow.Author.Tests.{eqb-true, not-false}
 use lib.Dec.{ltb, eqb}
 use lib.ListN.{length, take, drop}
 use Rattle.rules.specs.Word.{word, kindOf, payloadOf, sizeOf, minusZero, namesIn}
@@ -14,9 +13,9 @@ use Rattle.rules.specs.Book.{Protection, Cover, Member}
 use Rattle.rules.specs.Run.{over}
 use Rattle.rules.specs.Read.{headOf, firstRecord, headFaulty, dateFaulty, reportingDate, protectionAt, protectionTurn, coverAt, coverTurn, writtenAt, writtenTurn, tradeAt, tradeTurn, gradesAt, basketAt, basketTurn, memberTurn, protectionsOf}
 use Rattle.rules.specs.TwoDesks.{MoreMarks}
-use Rattle.rules.proofs.Lists.{or-left, or-right, or-true}
+use Rattle.rules.proofs.Lists.{or-true}
 use Rattle.rules.proofs.Runs.{Turns}
-use Rattle.cuts.proofs.Grammar.{kind-there}
+use Rattle.cuts.proofs.Grammar.{kind-there, head-kinds}
 use Rattle.cuts.specs.Words.{Wordwise}
 use Rattle.cuts.proofs.Shape.{turns-eq, eq-turns, run-same, record-turns, stands-turns, protection-turns, member-turns}
 use Rattle.two_desks.proofs.Amounts.{shape, word-same, amount-same, amounts-same, by-kind}
@@ -66,8 +65,8 @@ module _ (xs ys : List ℕ) (l : Wordwise MoreMarks xs ys) where
       let w = word-same xs ys l at 11 k refl in
       let a = amount-same xs ys l (namesIn (word xs at) + 2) at e 0 (omega arith) in
       let b = amount-same xs ys l (namesIn (word xs at) + 2) at e 1 (omega arith) in
-      let g : gradesAt xs at ≡ gradesAt ys at
-      = amounts-same xs ys l (namesIn (word xs at) + 2) at (at + 3) (namesIn (word xs at)) (kind-there xs at 10 k) e (omega arith) (omega arith) ∙ ap (λ (v : ℕ). take (namesIn v) (drop (at + 3) ys)) w in
+      let h = amounts-same xs ys l (namesIn (word xs at) + 2) at (at + 3) (namesIn (word xs at)) (kind-there xs at 10 k) e (omega arith) (omega arith) in
+      let g : gradesAt xs at ≡ gradesAt ys at = h ∙ ap (λ (v : ℕ). take (namesIn v) (drop (at + 3) ys)) w in
       (rw (g, w, a, b), λ z next. Turns.somes (rw (g, w, a, b))))
 
   pub member-same : (at : ℕ) → memberTurn xs at ≡ memberTurn ys at
@@ -104,17 +103,8 @@ module _ (xs ys : List ℕ) (l : Wordwise MoreMarks xs ys) where
 
   -- a head that is not faulty is the same
   pub head-same : headFaulty xs ≡ false → headOf xs ≡ headOf ys
-  unfolding headFaulty headOf
-  head-same e =
-      let short = ltb (length xs) firstRecord in
-      let other = not (eqb (kindOf (word xs 0)) 1) in
-      let many = ltb 4096 (payloadOf (word xs 0)) in
-      let none = not (eqb (kindOf (word xs 1)) 0) in
-      let d = or-left (short || other || many || none) (minusZero (word xs 1)) e in
-      let b = or-left (short || other) many (or-left (short || other || many) none d) in
-      let first = eqb-true (kindOf (word xs 0)) 1 (not-false _ (or-right short other b)) in
-      let second = eqb-true (kindOf (word xs 1)) 0 (not-false _ (or-right (short || other || many) none d)) in
-      rw (word-same xs ys l 0 1 first refl, word-same xs ys l 1 0 second refl, date-same)
+  unfolding headOf
+  head-same e = let k = head-kinds xs e in rw (word-same xs ys l 0 1 (k .0) refl, word-same xs ys l 1 0 (k .1) refl, date-same)
 
   pub protections-same : headFaulty xs ≡ false → protectionsOf xs ≡ protectionsOf ys
   unfolding protectionsOf
