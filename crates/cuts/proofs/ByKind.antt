@@ -3,7 +3,8 @@
 use Prim.Native.Nat.{ℕ, _+_, _-_}
 use mathlib.Core.Path.{_≡_, refl, sym, _∙_}
 use mathlib.Core.Bool.{Bool, true, false, _||_, cond}
-use mathlib.Core.List.{List, [], _∷_, _++_, map, append-nil}
+use mathlib.Core.List.{List, [], _∷_, _++_, map, append-nil, append-cancel-right}
+use native.Mathlib.Omega.{arith}
 use lib.Dec.{eqb}
 use lib.ListN.{length}
 use Rattle.rules.specs.Book.{Member, trade, written, basket, Item, asset, derivatives, financing, offBalance, Placed}
@@ -41,7 +42,7 @@ module _ (test : ℕ → Bool) (o : Outer test) where
   member-none at (written w) = rw (o .2) (along-none coverLength (coverPlaces test) (λ at c. rw (o .3)) (at + 6) (w .covers))
   member-none at (basket b) = rw (o .5)
 
-  inner-none : (at : ℕ) (i : Item) → innerPlaces test at i ≡ []
+  pub inner-none : (at : ℕ) (i : Item) → innerPlaces test at i ≡ []
   inner-none at (asset a) = refl
   inner-none at (derivatives s) = along-none memberLength (memberPlaces test) member-none (at + 4) (s .members)
   inner-none at (financing s) = along-none financingTradeLength (financingTradePlaces test) (λ at t. rw (o .4)) (at + 1) (s .trades)
@@ -67,7 +68,7 @@ module _ (test : ℕ → Bool) (o : Outer test) where
 abbrev pub opens : ℕ → Bool
 opens kind = isItem kind || eqb kind 15
 
-outer : Outer opens
+pub outer : Outer opens
 outer = (refl, refl, refl, refl, refl, refl)
 
 opens-all : (l : List Placed) → picked opens l ≡ l
@@ -81,12 +82,16 @@ items-by-kind ws e = picked-by-kind opens outer ws e ∙ rw (opens-all (itemsOf 
 
 -- in two books of one shape they stand at the same places
 pub items-same-places : {xs ys : List ℕ} → Wordwise Shape xs ys → itemsOf xs .number ≡ 0 → itemsOf ys .number ≡ 0
-    → begins (itemsOf xs .records) ++ (itemsOf xs .place ∷ []) ≡ begins (itemsOf ys .records) ++ (itemsOf ys .place ∷ [])
-items-same-places {xs} {ys} l e f = sym (found xs e) ∙ places-same opens refl l e f ∙ found ys f
+    → (begins (itemsOf xs .records) ≡ begins (itemsOf ys .records)) × (itemsOf xs .place ≡ itemsOf ys .place)
+items-same-places {xs} {ys} l e f =
+    let last : itemsOf xs .place ≡ itemsOf ys .place = omega (arith, l .long, book-cut xs e .end .last, book-cut ys f .end .last) in
+    let all = sym (found xs e) ∙ places-same opens refl l e f ∙ found ys f in
+    (append-cancel-right _ _ (itemsOf ys .place ∷ []) (rw last at all), last)
   where
     found : (ws : List ℕ) → itemsOf ws .number ≡ 0 → bookPlaces opens ws ≡ begins (itemsOf ws .records) ++ (itemsOf ws .place ∷ [])
     found ws z =
-        rw (along-none protectionLength (protectionPlaces opens) (λ at p. refl) firstRecord (protectionsOf ws .records), picked-places opens outer ws (book-cut ws z .items), opens-all (itemsOf ws .records))
+        let none = along-none protectionLength (protectionPlaces opens) (λ at p. refl) firstRecord (protectionsOf ws .records) in
+        rw (none, picked-places opens outer ws (book-cut ws z .items), opens-all (itemsOf ws .records))
 
 -- ---- derivative sets and financing sets
 

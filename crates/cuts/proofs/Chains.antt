@@ -13,6 +13,7 @@ pub data Chain {A : Type 0} (R : ℕ → A → ℕ → Type 0) : ℕ → List A 
   done : {at : ℕ} → Chain R at [] at
   then : {at next stop : ℕ} {a : A} {l : List A} → R at a next → Chain R next l stop → Chain R at (a ∷ l) stop
 
+-- records one after the other, taken apart at one of them
 pub record Split {A : Type 0} (R : ℕ → A → ℕ → Type 0) (at : ℕ) (l : List A) (a : A) (m : List A) (stop : ℕ) : Type 0 where
   pub begin : ℕ
   pub end : ℕ
@@ -25,7 +26,8 @@ pub record Cut {A : Type 0} (R : ℕ → A → ℕ → Type 0) (Over : ℕ → T
   pub chain : Chain R at l stop
   pub last : Over stop
 
--- what a turn at a place of n words is: nothing more; a fault, which has a number; or a record, which goes on and stays within the words
+-- what a turn at a place of n words is: nothing more; a fault, which has a number; a record with a fault inside it; or a record without one, which goes
+-- on and stays within the words
 pub data View {A : Type 0} (n at : ℕ) (R : A → ℕ → Type 0) (Over : Type 0) : Turn A → Type 0 where
   ends : Over → View n at R Over over
   faulty : {number place : ℕ} → View n at R Over (bad (suc number) place)
@@ -57,7 +59,7 @@ module _ {A : Type 0} where
     chain-even c f done = omega arith
     chain-even c f (then {at} {next} {stop} {a} {l} r t) = omega (arith, f at a next r, chain-even c f t, mul-suc c (length l))
 
-  -- a record that is seen
+  -- a turn that is a record without a fault
   module _ {n at : ℕ} {R : A → ℕ → Type 0} {Over : Type 0} where
     pub view-one : {t : Turn A} → View n at R Over t → (a : A) (next : ℕ) → t ≡ some a 0 next → R a next × (at < next) × (next ≤ n)
     view-one (View.ends o) a next e = let z : _≡_ {A = ℕ} 0 1 = cc in absurd (omega arith)
@@ -70,47 +72,35 @@ module _ {A : Type 0} where
   -- ---- a run without a fault is a chain
 
   module _ {R : ℕ → A → ℕ → Type 0} {Over : ℕ → Type 0} (n : ℕ) (turn : ℕ → Turn A) (view : (at : ℕ) → View n at (R at) (Over at) (turn at)) where
-    pub run-chain : (k at : ℕ) → runFrom turn k at .number ≡ 0 → Chain R at (runFrom turn k at .records) (runFrom turn k at .place)
-    unfolding runFrom
-    run-chain zero at e = done
-    run-chain (suc k) at e = go (turn at) (view at) (λ next f. run-chain k next f) e
-      where
-        go : (t : Turn A) → View n at (R at) (Over at) t
-            → ((next : ℕ) → runFrom turn k next .number ≡ 0 → Chain R next (runFrom turn k next .records) (runFrom turn k next .place))
-            → thenRun t at (runFrom turn k) .number ≡ 0
-            → Chain R at (thenRun t at (runFrom turn k) .records) (thenRun t at (runFrom turn k) .place)
-        go t (View.ends o) r f = done
-        go t View.faulty r f = let z : ⊥ = omega arith in absurd z
-        go t View.broken r f = let z : ⊥ = omega arith in absurd z
-        go t (View.one {next = next} w l h) r f = then w (r next f)
+    -- what a run from a place on comes to: a chain; where it has room for more, nothing more follows; and it stays within the words
+    record Ran (k at : ℕ) (r : Run A) : Type 0 where
+      pub chain : Chain R at (r .records) (r .place)
+      pub last : 0 < k → n < at + k → Over (r .place)
+      pub within : at ≤ n → (at ≤ r .place) × (r .place ≤ n)
 
-    -- one with room for more ends because nothing more follows
-    run-over : (k at : ℕ) → 0 < k → n < at + k → runFrom turn k at .number ≡ 0 → Over (runFrom turn k at .place)
+    ran : (k at : ℕ) → runFrom turn k at .number ≡ 0 → Ran k at (runFrom turn k at)
     unfolding runFrom
-    run-over zero at l m e = let z : ⊥ = omega arith in absurd z
-    run-over (suc k) at l m e = go (turn at) (view at) (λ next o h f. run-over k next (omega arith) (omega arith) f) e
+    ran zero at e = record { chain = done; last = λ l m. let z : ⊥ = omega arith in absurd z; within = λ h. (omega arith, h) }
+    ran (suc k) at e = go (turn at) (view at) (λ next f. ran k next f) e
       where
-        go : (t : Turn A) → View n at (R at) (Over at) t → ((next : ℕ) → at < next → next ≤ n → runFrom turn k next .number ≡ 0 → Over (runFrom turn k next .place))
-            → thenRun t at (runFrom turn k) .number ≡ 0 → Over (thenRun t at (runFrom turn k) .place)
-        go t (View.ends o) r f = o
+        go : (t : Turn A) → View n at (R at) (Over at) t → ((next : ℕ) → runFrom turn k next .number ≡ 0 → Ran k next (runFrom turn k next))
+            → thenRun t at (runFrom turn k) .number ≡ 0 → Ran (suc k) at (thenRun t at (runFrom turn k))
+        go t (View.ends o) r f = record { chain = done; last = λ l m. o; within = λ h. (omega arith, h) }
         go t View.faulty r f = let z : ⊥ = omega arith in absurd z
         go t View.broken r f = let z : ⊥ = omega arith in absurd z
-        go t (View.one {next = next} w l h) r f = r next l h f
+        go t (View.one {next = next} w l h) r f =
+            let q = r next f in
+            record { chain = then w (q .chain); last = λ i m. q .last (omega arith) (omega arith); within = λ i. let p = q .within h in (omega arith, p .1) }
+
+    pub run-chain : (k at : ℕ) → runFrom turn k at .number ≡ 0 → Chain R at (runFrom turn k at .records) (runFrom turn k at .place)
+    run-chain k at e = ran k at e .chain
 
     pub run-cut : (at : ℕ) → runFrom turn (suc n) at .number ≡ 0 → Cut R Over at (runFrom turn (suc n) at .records) (runFrom turn (suc n) at .place)
-    run-cut at e = record { chain = run-chain (suc n) at e; last = run-over (suc n) at (omega arith) (omega arith) e }
+    run-cut at e = let r = ran (suc n) at e in record { chain = r .chain; last = r .last (omega arith) (omega arith) }
 
+    -- it goes on and stays within the words
     pub run-within : (k at : ℕ) → at ≤ n → runFrom turn k at .number ≡ 0 → (at ≤ runFrom turn k at .place) × (runFrom turn k at .place ≤ n)
-    unfolding runFrom
-    run-within zero at h e = (omega arith, h)
-    run-within (suc k) at h e = go (turn at) (view at) (λ next l f. run-within k next l f) e
-      where
-        go : (t : Turn A) → View n at (R at) (Over at) t → ((next : ℕ) → next ≤ n → runFrom turn k next .number ≡ 0 → (next ≤ runFrom turn k next .place) × (runFrom turn k next .place ≤ n))
-            → thenRun t at (runFrom turn k) .number ≡ 0 → (at ≤ thenRun t at (runFrom turn k) .place) × (thenRun t at (runFrom turn k) .place ≤ n)
-        go t (View.ends o) r f = (omega arith, h)
-        go t View.faulty r f = let z : ⊥ = omega arith in absurd z
-        go t View.broken r f = let z : ⊥ = omega arith in absurd z
-        go t (View.one {next = next} w l m) r f = let q = r next m f in (omega arith, q .1)
+    run-within k at h e = ran k at e .within h
 
     -- each of its records goes on and stays within the words
     pub seen-onward : ((at : ℕ) (a : A) (next : ℕ) → R at a next → turn at ≡ some a 0 next) → (at : ℕ) (a : A) (next : ℕ) → R at a next → (at < next) × (next ≤ n)

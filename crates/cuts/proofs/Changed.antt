@@ -1,6 +1,6 @@
--- Two books that are cut alike up to a record, that differ in it and go on alike, also at other places: which items, members and covers the
--- second has, with the places behind moved. Assumes nothing.
-use Prim.Native.Nat.{ℕ, _+_, _≤_, _<_}
+-- Two books that are cut alike up to a record, that differ in it and go on alike, also at other places: which items and members the second
+-- has, with the places behind moved. Assumes nothing.
+use Prim.Native.Nat.{ℕ, _+_, _^_, _≤_, _<_}
 use mathlib.Core.Path.{_≡_, refl, sym, _∙_, ap}
 use mathlib.Core.List.{List, _∷_, _++_, map, map-id}
 use native.Mathlib.Omega.{arith}
@@ -10,9 +10,10 @@ use lib.Seq.{getD-drop}
 use Rattle.rules.specs.Word.{word}
 use Rattle.rules.specs.Book.{Head, Protection, Member, Placed}
 use Rattle.rules.specs.Read.{firstRecord, headFaulty, dateFaulty, reportingDate, headOf, protectionsOf, itemsOf}
+use Rattle.laws.specs.ReadAs.{ReadAs}
 use Rattle.cuts.proofs.Chains.{Chain, sureRun, chain-append, chain-split, chain-onward}
 use Rattle.cuts.proofs.Records.{NoneOf, isCover, MemberRead, member-onward, ProtectionRead, protection-onward}
-use Rattle.cuts.proofs.Cutting.{ItemHere, EndHere, itemsBegin, here-places, here-onward, book-cut, cut-protections, cut-items}
+use Rattle.cuts.proofs.Cutting.{ItemHere, EndHere, here-places, here-onward, book-cut, item-stands, cut-protections, cut-items}
 use Rattle.cuts.proofs.Moved.{movedMember, Stretch, Follows, word-on, room-on, none-moved, chain-moved, protection-moved, member-moved}
 use Rattle.cuts.proofs.Local.{stay, map-same, member-stays, FollowsAll, follows-none, here-goes-not, end-goes-not, item-kept}
 
@@ -119,3 +120,19 @@ module _ {move : ℕ → ℕ} (xs ys : List ℕ) (before : List Placed) (p q : P
         cut-protections xs _ _ _ _ (k .many) (k .protections) (k .items) (k .end) ∙ sym (cut-protections ys _ _ _ _ many ps all (c .end)),
         cut-items ys _ _ _ _ many ps all (c .end),
       )
+
+-- so with rows and entries enough it is read as these, if it is not too long
+pub changed-read : {move : ℕ → ℕ} (xs ys : List ℕ) (rows entries : ℕ) (before : List Placed) (p q : Placed) (after : List Placed)
+    → ReadAs xs rows entries (before ++ p ∷ after) → Changed move xs ys p q → length ys ≤ 2 ^ 20 → ReadAs ys rows entries (before ++ q ∷ map (movedPlaced move) after)
+changed-read xs ys rows entries before p q after r c short =
+    let b = changed-book xs ys before p q after (r .number) (r .read) c in
+    let h = item-stands xs (r .number) before p after (r .read) .from in
+    record {
+      rows-enough = r .rows-enough;
+      short = short;
+      head = sym (head-fault-same xs ys (p .begin) (c .front) (omega arith)) ∙ r .head;
+      date = sym (date-fault-same xs ys (p .begin) (c .front) (omega arith)) ∙ r .date;
+      room = rw (← b .0) (r .room);
+      number = rw (b .2);
+      read = rw (b .2);
+    }

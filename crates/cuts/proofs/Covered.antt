@@ -53,7 +53,7 @@ pub record CoveredSet (s t : DerivativeSet) : Type 0 where
 -- the same item, as any asset, financing set or off-balance item is; or two such sets
 pub data CoveredItem : Item → Item → Type 0 where
   same : {i : Item} → CoveredItem i i
-  of-set : {s t : DerivativeSet} → CoveredSet s t → CoveredItem (derivatives s) (derivatives t)
+  of-derivatives : {s t : DerivativeSet} → CoveredSet s t → CoveredItem (derivatives s) (derivatives t)
 
 -- wherever the two stand
 abbrev pub CoveredPlaced : Placed → Placed → Type 0

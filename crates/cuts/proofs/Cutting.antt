@@ -3,9 +3,9 @@
 use Prim.Native.Nat.{ℕ, zero, suc, _+_, _*_, _≤_, _<_}
 use mathlib.Core.Path.{_≡_, refl, sym, _∙_, ap}
 use mathlib.Core.Bool.{Bool, false, not, _||_, cond}
-use mathlib.Core.List.{List}
+use mathlib.Core.List.{List, _∷_, _++_}
 use native.Mathlib.Omega.{arith}
-use borrow.Author.Tests.{eqb-true, eq-eqb, not-false, lt-leb, leb-false}
+use borrow.Author.Tests.{eqb-true, eqb-false, eq-eqb, ne-eqb, not-false, lt-leb, leb-false}
 use lib.Dec.{eqb, leb}
 use lib.ListN.{length, drop, length-drop}
 use Rattle.rules.specs.declared.Entry.{Entry}
@@ -20,7 +20,7 @@ use Rattle.laws.proofs.Accepted.{accepted-is}
 use Rattle.laws.proofs.Protections.{no-fault-before, protections-count}
 use Rattle.laws.proofs.Records.{head-word}
 use Rattle.laws.proofs.Valid.{cause-none}
-use Rattle.cuts.proofs.Chains.{Chain, View, sureRun, chain-onward, chain-even, chain-run, chain-run-all, run-chain, run-cut, seen-onward}
+use Rattle.cuts.proofs.Chains.{Chain, View, sureRun, chain-split, chain-onward, chain-even, chain-run, chain-run-all, run-chain, run-cut, seen-onward}
 use Rattle.cuts.proofs.Grammar.{seen-if}
 use Rattle.cuts.proofs.Records.{ItemRead, item-view, item-made, item-onward, ProtectionRead, protection-view, protection-made}
 
@@ -47,9 +47,9 @@ isItem kind = eqb kind 2 || eqb kind 4 || eqb kind 8 || eqb kind 10
 
 pub item-kind : (ws : List ℕ) (i : Item) (n : ℕ) → ItemRead ws i n → kindOf (word ws 0) ≡ kindOfItem i
 item-kind ws i n (ItemRead.of-asset w) = w .of
-item-kind ws i n (ItemRead.of-set w c) = w .of
+item-kind ws i n (ItemRead.of-derivatives w c) = w .of
 item-kind ws i n (ItemRead.of-financing w c) = w .of
-item-kind ws i n (ItemRead.of-commitment w) = w .of
+item-kind ws i n (ItemRead.of-off-balance w) = w .of
 
 pub here-kind : (ws : List ℕ) (at : ℕ) (p : Placed) (next : ℕ) → ItemHere ws at p next → kindOf (word ws at) ≡ kindOfItem (p .item)
 here-kind ws at p next (ItemHere.here {i} {n} r) = ap kindOf (sym (head-word ws at)) ∙ item-kind (drop at ws) i n r
@@ -60,6 +60,10 @@ test-item test b p q r s (asset a) = p
 test-item test b p q r s (derivatives d) = q
 test-item test b p q r s (financing f) = r
 test-item test b p q r s (offBalance o) = s
+
+-- an item's first word is no end word
+pub item-not-end : (ws : List ℕ) (at : ℕ) (p : Placed) (next : ℕ) → ItemHere ws at p next → kindOf (word ws at) ≡ 15 → ⊥
+item-not-end ws at p next h e = eqb-false (kindOfItem (p .item)) 15 (test-item (λ k. eqb k 15) false refl refl refl refl (p .item)) (sym (here-kind ws at p next h) ∙ e)
 
 -- ---- what stands at a place behind the protections
 
@@ -91,7 +95,7 @@ module _ (ws : List ℕ) (at : ℕ) where
   placed-view h t View.broken = View.broken
   placed-view h t (View.one r l m) = View.one (ItemHere.here r) (omega arith) (omega (arith, length-drop at ws))
 
-  pub book-view : View (length ws) at (ItemHere ws at) (EndHere ws at) (itemTurn ws at)
+  book-view : View (length ws) at (ItemHere ws at) (EndHere ws at) (itemTurn ws at)
   book-view =
       rw book-turn
       (seen-if ws at _ _ (leb (length ws) at) _ _ (λ _. View.faulty)
@@ -102,10 +106,10 @@ module _ (ws : List ℕ) (at : ℕ) where
   pub here-made : (p : Placed) (next : ℕ) → ItemHere ws at p next → itemTurn ws at ≡ some p 0 next
   here-made p next (ItemHere.here {i} {n} r) =
       let o = item-onward (drop at ws) i n r in
-      let other : eqb (kindOf (word ws at)) 15 ≡ false = rw (here-kind ws at _ _ (ItemHere.here r)) (test-item (λ k. eqb k 15) false refl refl refl refl i) in
+      let other = ne-eqb (kindOf (word ws at)) 15 (item-not-end ws at _ _ (ItemHere.here r)) in
       book-turn ∙ rw (lt-leb (length ws) at (omega (arith, length-drop at ws)), other, item-made (drop at ws) i n r)
 
-  pub end-made : EndHere ws at → itemTurn ws at ≡ over
+  end-made : EndHere ws at → itemTurn ws at ≡ over
   unfolding endFault cause
   end-made h = book-turn ∙ rw (lt-leb (length ws) at (omega (arith, h .last)), h .of, eq-eqb _ at (h .counts), eq-eqb _ _ (h .last))
 
@@ -125,6 +129,7 @@ pub record CutBook (ws : List ℕ) : Type 0 where
   -- b protections of four words each
   pub protections : Chain (ProtectionRead ws) firstRecord (protectionsOf ws .records) (itemsBegin ws)
   pub many : length (protectionsOf ws .records) ≡ headOf ws .protections
+  pub behind : protectionsOf ws .place ≡ itemsBegin ws
   -- items without a gap
   pub items : Chain (ItemHere ws) (itemsBegin ws) (itemsOf ws .records) (itemsOf ws .place)
   -- the end word
@@ -143,11 +148,27 @@ book-cut ws e =
     let s : protectionsOf ws .place ≡ itemsBegin ws = chain-even 4 (four ws) c ∙ rw m in
     let t : itemsOf ws ≡ runFrom (itemTurn ws) (suc (length ws)) (protectionsOf ws .place) = rw z in
     let i = run-cut (length ws) (itemTurn ws) (book-view ws) (protectionsOf ws .place) (rw t at e) in
-    record { protections = rw s at c; many = m; items = rw (t, ← s) (i .chain); end = rw t (i .last) }
+    record { protections = rw s at c; many = m; behind = s; items = rw (t, ← s) (i .chain); end = rw t (i .last) }
 
 -- an accepted book is read without a fault
 pub accepted-cut : (ws : List ℕ) (rows entries : ℕ) (items : List Placed) (left : List Entry) → outcomeOf ws rows entries ≡ accepted items left → CutBook ws
 accepted-cut ws rows entries items left e = book-cut ws (accepted-is ws rows entries items left e .reading .number)
+
+-- ONE ITEM of such a book is read where it says that it stands, behind the protections and before the end
+pub record StandsIn (ws : List ℕ) (p : Placed) : Type 0 where
+  pub here : ItemHere ws (p .begin) p (p .end)
+  pub from : itemsBegin ws ≤ p .begin
+  pub to : p .end ≤ itemsOf ws .place
+
+pub item-stands : (ws : List ℕ) → itemsOf ws .number ≡ 0 → (l : List Placed) (p : Placed) (m : List Placed) → itemsOf ws .records ≡ l ++ p ∷ m → StandsIn ws p
+item-stands ws e l p m is =
+    let t = chain-split l (rw is at (book-cut ws e .items)) in
+    let w = here-places ws (t .begin) p (t .end) (t .one) in
+    let onward : (at : ℕ) (q : Placed) (next : ℕ) → ItemHere ws at q next → at < next = λ at q next h. here-onward ws at q next h .0 in
+    record { here = own p (t .one); from = omega (arith, chain-onward onward (t .before)); to = omega (arith, chain-onward onward (t .after)) }
+  where
+    own : (q : Placed) {at next : ℕ} → ItemHere ws at q next → ItemHere ws (q .begin) q (q .end)
+    own q (ItemHere.here r) = ItemHere.here r
 
 -- AND BACK: words that are cut so are read so
 module _ (ws : List ℕ) (ps : List Protection) (at : ℕ) (l : List Placed) (stop : ℕ) (many : length ps ≡ headOf ws .protections)

@@ -4,7 +4,7 @@ use Prim.Native.Nat.{ℕ, suc, _-_, _≤_, _<_}
 use mathlib.Core.Path.{_≡_, refl}
 use mathlib.Core.Logic.{_⊎_, inl, inr, ⊎-map}
 use mathlib.Core.Bool.{Bool, true, false, not, _||_}
-use mathlib.Core.List.{List, [], _∷_, _++_, append-cancel-left, List·Memᴰ}
+use mathlib.Core.List.{List, [], _∷_, _++_, append-cancel-left, List·Memᴰ, List·Memᴰ·not-nil}
 use native.Mathlib.Omega.{arith}
 use native.Mathlib.Decide.{ℕ-discrete}
 use borrow.Author.Tests.{ne-eqb}
@@ -14,12 +14,13 @@ use Rattle.rules.specs.Word.{word, kindOf}
 use Rattle.rules.specs.Book.{Item, asset, derivatives, financing, offBalance, Placed}
 use Rattle.rules.specs.Read.{firstRecord, itemsOf}
 use Rattle.rules.proofs.Lists.{or-true}
-use Rattle.cuts.proofs.Records.{isCover, isMember, isFinancingTrade, goesOn}
-use Rattle.cuts.proofs.Cutting.{ItemHere, kindOfItem, here-kind, here-onward, itemsBegin}
+use Rattle.cuts.proofs.Chains.{Chain, chain-split}
+use Rattle.cuts.proofs.Records.{NoneOf, isCover, isMember, isFinancingTrade, goesOn}
+use Rattle.cuts.proofs.Cutting.{ItemHere, EndHere, kindOfItem, here-kind, test-item, here-places, here-onward, itemsBegin, book-cut}
 use Rattle.cuts.proofs.Lengths.{placedLength, here-length}
 use Rattle.cuts.proofs.Scan.{marked, scan, in-scan, scan-in}
 use Rattle.cuts.proofs.Places.{innerPlaces, bookPlaces, here-scan, book-scan}
-use Rattle.cuts.proofs.ByKind.{begins, opens, items-by-kind}
+use Rattle.cuts.proofs.ByKind.{begins, inner-none, opens, outer, items-by-kind}
 
 -- any kind but that of amounts
 abbrev pub heads : ℕ → Bool
@@ -48,6 +49,17 @@ module _ (ws : List ℕ) (e : itemsOf ws .number ≡ 0) where
   place-item i m =
       let p = scan-in opens ws (length ws - itemsBegin ws) (itemsBegin ws) i (rw (items-by-kind ws e) m) in
       (p .0, omega arith, p .2)
+
+  -- behind every item stands an item or the end
+  pub item-next : (l : List Placed) (p : Placed) (m : List Placed) → itemsOf ws .records ≡ l ++ p ∷ m → opens (kindOf (word ws (p .end))) ≡ true
+  item-next l p m is =
+      let c = book-cut ws e in
+      let t = chain-split l (rw is at (c .items)) in
+      rw (here-places ws (t .begin) p (t .end) (t .one) .1) (opening (t .after) (c .end))
+    where
+      opening : {at stop : ℕ} {l : List Placed} → Chain (ItemHere ws) at l stop → EndHere ws stop → opens (kindOf (word ws at)) ≡ true
+      opening Chain.done h = rw (h .of)
+      opening (Chain.then {at} {next} {a = q} h c) z = rw (here-kind ws at q next h) (test-item opens true refl refl refl refl (q .item))
 
 -- ---- inside an item, behind its first word
 
@@ -87,13 +99,21 @@ module _ (ws : List ℕ) (at : ℕ) (p : Placed) (next : ℕ) (h : ItemHere ws a
     pub place-inner : (i : ℕ) → List·Memᴰ i (innerPlaces test at (p .item)) → (at < i) × (i < next) × (test (kindOf (word ws i)) ≡ true)
     place-inner i m = let q = scan-in test ws (next - suc at) (suc at) i (rw inner-scan m) in (q .0, omega arith, q .2)
 
-  -- INSIDE A SET a word of a kind that goes on with it is just where a member, a cover or a financing trade stands
-  pub inside-set : (i : ℕ) → at < i → i < next → kindInside (p .item) (kindOf (word ws i)) ≡ true → List·Memᴰ i (innerPlaces heads at (p .item))
-  inside-set i l m t = rw (own-heads at (p .item)) at (inner-place (kindInside (p .item)) (own-amount (p .item)) i l m t)
+  -- INSIDE AN ITEM a word of another kind than 0 is just where a member, a cover or a financing trade stands, and is of the item's own kinds
+  pub inside-set : (i : ℕ) → at < i → i < next → (kindOf (word ws i) ≡ 0 → ⊥) → List·Memᴰ i (innerPlaces heads at (p .item))
+  inside-set i l m k = inner-place heads refl i l m (rw (ne-eqb _ 0 k))
 
   -- and back
   pub set-inside : (i : ℕ) → List·Memᴰ i (innerPlaces heads at (p .item)) → (at < i) × (i < next) × (kindInside (p .item) (kindOf (word ws i)) ≡ true)
   set-inside i m = place-inner (kindInside (p .item)) (own-amount (p .item)) i (rw (own-heads at (p .item)) m)
+
+  -- no item and no end begins inside an item, so it ends at the next word of a kind that does
+  pub inside-closed : (i : ℕ) → at < i → i < next → NoneOf opens ws i
+  inside-closed i l m = go (opens (kindOf (word ws i))) refl
+    where
+      go : (b : Bool) → opens (kindOf (word ws i)) ≡ b → b ≡ false
+      go false e = refl
+      go true e = absurd (List·Memᴰ·not-nil (rw (inner-none opens outer at (p .item)) at (inner-place opens refl i l m e)))
 
   -- EACH OTHER WORD inside an item is an amount
   pub inside-own : (i : ℕ) → at < i → i < next → (kindOf (word ws i) ≡ 0) ⊎ (kindInside (p .item) (kindOf (word ws i)) ≡ true)
@@ -101,7 +121,7 @@ module _ (ws : List ℕ) (at : ℕ) (p : Placed) (next : ℕ) (h : ItemHere ws a
     where
       go : Dec (kindOf (word ws i) ≡ 0) → (kindOf (word ws i) ≡ 0) ⊎ (kindInside (p .item) (kindOf (word ws i)) ≡ true)
       go (yes z) = inl z
-      go (no z) = inr (set-inside i (inner-place heads refl i l m (rw (ne-eqb _ 0 z))) .2)
+      go (no z) = inr (set-inside i (inside-set i l m z) .2)
 
   -- so of kind 0, 5, 6, 7, 9 or 11
   pub inside : (i : ℕ) → at < i → i < next → (kindOf (word ws i) ≡ 0) ⊎ (goesOn (kindOf (word ws i)) ≡ true)

@@ -6,8 +6,6 @@ use mathlib.Core.Logic.{_⊎_, inl, inr}
 use mathlib.Core.Bool.{false, _||_}
 use mathlib.Core.List.{List, [], _∷_}
 use native.Mathlib.Omega.{arith}
-use borrow.Author.Tests.{eqb-false}
-use lib.Dec.{eqb}
 use lib.ListN.{length, drop}
 use lib.Seq.{getD-drop, drop-drop}
 use Rattle.rules.specs.Word.{word, kindOf, namesIn}
@@ -16,13 +14,13 @@ use Rattle.rules.specs.Read.{firstRecord, headFaulty, dateFaulty, headOf, cover
 use Rattle.rules.proofs.Lists.{Pairs, or-left}
 use Rattle.cuts.proofs.Chains.{Chain, Cut}
 use Rattle.cuts.proofs.Records.{NoneOf, isCover, CoverRead, isMember, goesOn, MemberRead, FinancingTradeRead, ItemRead, ProtectionRead, writtenFaultAt, derivativeSetFaultAt}
-use Rattle.cuts.proofs.Cutting.{ItemHere, kindOfItem, test-item, itemsBegin, here-kind, here-made, book-cut, cut-protections}
+use Rattle.cuts.proofs.Cutting.{ItemHere, item-not-end, itemsBegin, here-made, book-cut, cut-protections}
 use Rattle.cuts.proofs.Moved.{coveredBy, movedMember, word-on, whole-moved, cover-moved, member-moved}
 use Rattle.cuts.proofs.Local.{stay, follows-kind, item-kept, here-goes-not, end-goes-not}
 use Rattle.cuts.proofs.Changed.{member-no-cover, head-same, protections-same}
 use Rattle.cuts.specs.Words.{Inserted}
 use Rattle.cuts.proofs.Covered.{MoreCovers, CoveredMember, memberless, CoveredItem, CoveredPlaced, FurtherCovered}
-use Rattle.cuts.proofs.SameWords.{Plain, plain-append, whole-plain, chain-plain, head-plain, front, From, kind-beside, shift, Shifted, whole-beside, cover-beside}
+use Rattle.cuts.proofs.SameWords.{Plain, plain-append, whole-plain, chain-plain, head-plain, same-first, From, kind-beside, shift, Shifted, whole-beside, cover-beside}
 
 -- ---- what is read of the second, and the first beside it
 
@@ -107,7 +105,7 @@ module _ (xs ys : List ℕ) where
 
 -- ---- items, in words of their own
 
--- neither has a word in which the two may differ
+-- no word of a financing trade or of a protection is of a kind in which the two books may differ
 financing-trade-plain : (ws : List ℕ) (at : ℕ) (t : FinancingTrade) (next : ℕ) → FinancingTradeRead ws at t next → Plain ws at next
 financing-trade-plain ws at t next (FinancingTradeRead.one w) = whole-plain 9 _ ws at w refl
 
@@ -118,21 +116,21 @@ module _ (u v : List ℕ) where
   abbrev ItemBeside : Item → ℕ → Type 0
   ItemBeside = Beside u v (λ (_ : ℕ). ItemRead u) CoveredItem 0
 
-  -- an item without members that may be covered
+  -- an item that is no derivative set
   kept-item : (i : Item) (n : ℕ) → ItemRead v i n → NoneOf isCover v n → Inserted u v → Plain v 0 n → ItemBeside i n
   kept-item i n h e r p =
-      let f = front n r p in
+      let f = same-first n r p in
       let k = follows-kind stay v u n (sym (kind-beside u v n n (f .rest) e)) in
       record { first = i; end = n; read = item-kept n v u (f .words) k i n (omega arith) h; more = CoveredItem.same; rest = f .rest }
 
   item-beside : (i : Item) (n : ℕ) → ItemRead v i n → NoneOf isCover v n → Inserted u v → ItemBeside i n
   unfolding derivativeSetAt
   item-beside i n (ItemRead.of-asset w) e r = kept-item i n (ItemRead.of-asset w) e r (whole-plain 2 _ v 0 w refl)
-  item-beside i n (ItemRead.of-commitment w) e r = kept-item i n (ItemRead.of-commitment w) e r (whole-plain 10 _ v 0 w refl)
+  item-beside i n (ItemRead.of-off-balance w) e r = kept-item i n (ItemRead.of-off-balance w) e r (whole-plain 10 _ v 0 w refl)
   item-beside i n (ItemRead.of-financing w c) e r =
       kept-item i n (ItemRead.of-financing w c) e r (plain-append v 0 1 n (whole-plain 8 _ v 0 w refl) (chain-plain v (financing-trade-plain v) (c .chain)))
-  item-beside i n (ItemRead.of-set {members} w cut) e r =
-      let f = front 4 r (whole-plain 4 _ v 0 w refl) in
+  item-beside i n (ItemRead.of-derivatives {members} w cut) e r =
+      let f = same-first 4 r (whole-plain 4 _ v 0 w refl) in
       let q = chain-beside u v (member-no-cover v) (member-beside u v) (cut .chain) e 4 (f .rest) in
       let x = f .words .words 0 (omega arith) (omega arith) in
       let a = f .words .words 1 (omega arith) (omega arith) in
@@ -141,7 +139,13 @@ module _ (u v : List ℕ) where
       let k = whole-moved (f .words) 4 (derivativeSetFaultAt v) (derivativeSetFaultAt u) 0 (omega arith) (omega arith) (rw (x, a, b, c)) w in
       let l : memberless (derivativeSetAt u (q .first)) ≡ memberless (derivativeSetAt v members) = rw (x, a, b, c) in
       let o : NoneOf isMember u (q .end) = rw (kind-beside u v (q .end) n (q .rest) e) (cut .last) in
-      record { first = _; end = q .end; read = ItemRead.of-set k (record { chain = q .read; last = o }); more = CoveredItem.of-set (record { alike = l; members = q .more }); rest = q .rest }
+      record {
+        first = _;
+        end = q .end;
+        read = ItemRead.of-derivatives k (record { chain = q .read; last = o });
+        more = CoveredItem.of-derivatives (record { alike = l; members = q .more });
+        rest = q .rest;
+      }
 
 -- ---- books
 
@@ -154,10 +158,6 @@ here-beside xs ys i j q next (ItemHere.here {i = b} {n} h) e r =
 -- what does not go on with an item is no cover
 no-cover : (ws : List ℕ) (at : ℕ) → NoneOf goesOn ws at → NoneOf isCover ws at
 no-cover ws at e = or-left (isCover (kindOf (word ws at))) _ (or-left (isCover (kindOf (word ws at)) || isMember (kindOf (word ws at))) _ e)
-
--- nor is an item's first word an end word
-item-not-end : (ws : List ℕ) (at : ℕ) (p : Placed) (next : ℕ) → ItemHere ws at p next → kindOf (word ws at) ≡ 15 → ⊥
-item-not-end ws at p next h e = eqb-false (kindOfItem (p .item)) 15 (test-item (λ k. eqb k 15) false refl refl refl refl (p .item)) (sym (here-kind ws at p next h) ∙ e)
 
 -- items one after the other up to an end word can be read in one way only
 items-only : (ws : List ℕ) {at stop end : ℕ} {l m : List Placed} → Chain (ItemHere ws) at l stop → kindOf (word ws stop) ≡ 15
@@ -177,7 +177,7 @@ pub further-covers : (xs ys : List ℕ) → Inserted xs ys → headFaulty ys ≡
 further-covers xs ys r g d e f =
     let k = book-cut xs e in
     let c = book-cut ys f in
-    let p = front (itemsBegin ys) r (plain-append ys 0 firstRecord (itemsBegin ys) (head-plain ys g d) (chain-plain ys (protection-plain ys) (c .protections))) in
+    let p = same-first (itemsBegin ys) r (plain-append ys 0 firstRecord (itemsBegin ys) (head-plain ys g d) (chain-plain ys (protection-plain ys) (c .protections))) in
     let h = head-same ys xs (itemsBegin ys) (p .words) (omega arith) in
     let ps = protections-same ys xs (itemsBegin ys) (p .words) (omega arith) (omega arith) (c .protections) in
     let many : length (protectionsOf ys .records) ≡ headOf xs .protections = rw h at (c .many) in

@@ -81,7 +81,7 @@ module _ {A : Type 0} (ws : List ℕ) (at : ℕ) (R : A → ℕ → Type 0) (Ove
   seen-if false t u g h = h refl
 
   -- a record of some kind: what is to be shown of what follows, where it is whole
-  pub seen-record : (kind fault : ℕ) (next : ℕ → Turn A) → kindOf (word ws at) ≡ kind
+  seen-record : (kind fault : ℕ) (next : ℕ → Turn A) → kindOf (word ws at) ≡ kind
       → (Whole kind fault ws at → Seen (next (at + suc (amountsAt kind ws at)))) → Seen (recordThen ws at fault next)
   unfolding recordThen
   seen-record kind fault next k h = rw (amounts-at (word ws at) k) (go (lacks (amountsAt kind ws at) ws at) refl fault refl)

@@ -72,13 +72,10 @@ module _ (ws : List ℕ) where
   pub item-length : (i : Item) (n : ℕ) → ItemRead ws i n → n ≡ itemLength i
   unfolding derivativeSetAt financingSetAt
   item-length i n (ItemRead.of-asset w) = refl
-  item-length i n (ItemRead.of-set w c) = chain-length memberLength member-length (c .chain)
+  item-length i n (ItemRead.of-derivatives w c) = chain-length memberLength member-length (c .chain)
   item-length i n (ItemRead.of-financing w c) = chain-length financingTradeLength financing-trade-length (c .chain)
-  item-length i n (ItemRead.of-commitment w) = refl
+  item-length i n (ItemRead.of-off-balance w) = refl
 
 -- an item in the book: its places are as far apart as it is long
 pub here-length : (ws : List ℕ) (at : ℕ) (p : Placed) (next : ℕ) → ItemHere ws at p next → next ≡ at + placedLength p
 here-length ws at p next (ItemHere.here {i} {n} r) = omega (arith, item-length _ i n r)
-
-pub placed-length : (ws : List ℕ) (at : ℕ) (p : Placed) (next : ℕ) → ItemHere ws at p next → p .end ≡ p .begin + itemLength (p .item)
-placed-length ws at p next (ItemHere.here {i} {n} r) = omega (arith, item-length _ i n r)

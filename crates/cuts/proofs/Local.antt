@@ -3,7 +3,7 @@
 use Prim.Native.Nat.{ℕ, _+_, _-_, _≤_, _<_}
 use mathlib.Core.Path.{_≡_, refl, sym, _∙_, ap}
 use mathlib.Core.Bool.{Bool, false, _||_}
-use mathlib.Core.List.{List, [], _∷_, _++_, map}
+use mathlib.Core.List.{List, _++_, map, map-id, map-congr-left}
 use native.Mathlib.Omega.{arith}
 use native.Mathlib.Nat.{add-zero}
 use lib.ListN.{length, take, length-take, List·getD-eq-default}
@@ -30,10 +30,9 @@ first-words n xs ys h e = record {
   words = λ i l m. sym (getD-take n xs i 0 m) ∙ ap (λ (ws : List ℕ). word ws i) e ∙ getD-take n ys i 0 m;
 }
 
--- what stands still is the same
+-- a map that changes nothing
 pub map-same : {A : Type 0} (f : A → A) → ((a : A) → f a ≡ a) → (l : List A) → map f l ≡ l
-map-same f h [] = refl
-map-same f h (a ∷ l) = rw (h a, map-same f h l)
+map-same f h l = map-congr-left {l = l} (λ a _. h a) ∙ map-id l
 
 pub member-stays : (m : Member) → movedMember stay m ≡ m
 member-stays (trade t) = refl
@@ -54,11 +53,11 @@ here-goes-not ws at p next h = rw (here-kind ws at p next h) (test-item goesOn f
 pub end-goes-not : (ws : List ℕ) (at : ℕ) → EndHere ws at → NoneOf goesOn ws at
 end-goes-not ws at e = rw (e .of)
 
--- behind a stretch: what does not stand there in the one does not in the other
+-- so of covers, members and financing trades alike
 abbrev pub FollowsAll : (ℕ → ℕ) → List ℕ → List ℕ → ℕ → Type 0
 FollowsAll move xs ys to = (test : ℕ → Bool) → Inner test → Follows test move xs ys to
 
--- so where both have a word of one kind there,
+-- where both have a word of one kind there,
 pub follows-kind : (move : ℕ → ℕ) (xs ys : List ℕ) (to : ℕ) → kindOf (word xs to) ≡ kindOf (word ys (move to)) → FollowsAll move xs ys to
 follows-kind move xs ys to e test t f = rw (← e) f
 
@@ -111,7 +110,7 @@ module _ (n : ℕ) (xs ys : List ℕ) (s : Stretch stay xs ys 0 n) (f : FollowsA
       let c = at-word 3 (omega arith) in
       let k = whole-moved s 2 (assetFaultAt xs) (assetFaultAt ys) 0 (omega arith) (omega arith) (rw (x, a, b, c)) w in
       rw (x, a, b, c) (ItemRead.of-asset k)
-  item-kept i m h (ItemRead.of-set w cut) =
+  item-kept i m h (ItemRead.of-derivatives w cut) =
       let onward : (at : ℕ) (m : Member) (next : ℕ) → MemberRead xs at m next → at < next = λ at m next r. member-onward xs at m next r .0 in
       let o = chain-onward onward (cut .chain) in
       let x = at-word 0 (omega arith) in
@@ -119,18 +118,18 @@ module _ (n : ℕ) (xs ys : List ℕ) (s : Stretch stay xs ys 0 n) (f : FollowsA
       let b = at-word 2 (omega arith) in
       let c = at-word 3 (omega arith) in
       let k = whole-moved s 4 (derivativeSetFaultAt xs) (derivativeSetFaultAt ys) 0 (omega arith) (omega arith) (rw (x, a, b, c)) w in
-      rw (x, a, b, c) (ItemRead.of-set k (cut-kept isMember Inner.members (movedMember stay) member-stays onward (member-moved s (f isCover Inner.covers)) (omega arith) cut))
+      rw (x, a, b, c) (ItemRead.of-derivatives k (cut-kept isMember Inner.members (movedMember stay) member-stays onward (member-moved s (f isCover Inner.covers)) (omega arith) cut))
   item-kept i m h (ItemRead.of-financing w cut) =
       let onward : (at : ℕ) (t : FinancingTrade) (next : ℕ) → FinancingTradeRead xs at t next → at < next = λ at t next r. financing-trade-onward xs at t next r .0 in
       let o = chain-onward onward (cut .chain) in
       let x = at-word 0 (omega arith) in
       let k = whole-moved s 8 (financingSetFaultAt xs) (financingSetFaultAt ys) 0 (omega arith) (omega arith) (rw x) w in
       rw x (ItemRead.of-financing k (cut-kept isFinancingTrade Inner.trades (λ t. t) (λ t. refl) onward financing-trade-kept (omega arith) cut))
-  item-kept i m h (ItemRead.of-commitment w) =
+  item-kept i m h (ItemRead.of-off-balance w) =
       let x = at-word 0 (omega arith) in
       let a = at-word 1 (omega arith) in
       let k = whole-moved s 10 (offBalanceFaultAt xs) (offBalanceFaultAt ys) 0 (omega arith) (omega arith) (rw (x, a)) w in
-      rw (x, a) (ItemRead.of-commitment k)
+      rw (x, a) (ItemRead.of-off-balance k)
 
 -- so n words that read as an item do so in another book, if what stands behind them there does not go on with it
 pub item-local : (n : ℕ) (xs ys : List ℕ) (i : Item) → ItemRead xs i n → take n xs ≡ take n ys → NoneOf goesOn ys n → ItemRead ys i n

@@ -114,7 +114,7 @@ module _ {move : ℕ → ℕ} {xs ys : List ℕ} {from to : ℕ} (s : Stretch mo
       let k = whole-moved 7 (coverFaultAt xs at) (coverFaultAt ys (move at)) at h (omega arith) (rw (x, a)) w in
       rw (x, a, s .even at 2 h) (CoverRead.one k)
 
-  pub covers-moved : Follows isCover move xs ys to → {at stop : ℕ} {cs : List Cover} → from ≤ at → stop ≤ to
+  covers-moved : Follows isCover move xs ys to → {at stop : ℕ} {cs : List Cover} → from ≤ at → stop ≤ to
       → Cut (CoverRead xs) (NoneOf isCover xs) at cs stop → Cut (CoverRead ys) (NoneOf isCover ys) (move at) (map (movedCover move) cs) (move stop)
   covers-moved f {at} {stop} h l c =
       let onward : (i : ℕ) (a : Cover) (next : ℕ) → CoverRead xs i a next → i < next = λ i a next r. cover-onward xs i a next r .0 in

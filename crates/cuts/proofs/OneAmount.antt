@@ -2,7 +2,7 @@
 -- does not stand in is the same, and the one that it stands in is read from its own words in each. Assumes nothing.
 use Prim.Native.Nat.{ℕ, suc, _+_, _-_, _≤_, _<_}
 use mathlib.Core.Path.{_≡_, refl, sym, _∙_, ap}
-use mathlib.Core.Bool.{Bool, true, false}
+use mathlib.Core.Bool.{false}
 use mathlib.Core.List.{List}
 use native.Mathlib.Omega.{arith}
 use native.Mathlib.Decide.{ℕ-discrete, decLt}
@@ -12,13 +12,13 @@ use lib.ListN.{length, drop, length-drop}
 use lib.Seq.{getD-drop}
 use Rattle.rules.specs.Word.{word, kindOf, namesIn}
 use Rattle.rules.specs.Book.{Cover, Member, trade, written, basket, FinancingTrade, Item, asset, derivatives, financing, offBalance, Placed}
-use Rattle.rules.specs.Run.{Turn, some}
+use Rattle.rules.specs.Run.{Turn, over, some}
 use Rattle.rules.specs.Read.{firstRecord, headOf, coverAt, tradeAt, writtenAt, basketAt, assetAt, derivativeSetAt, financingTradeAt, financingSetAt, offBalanceAt, itemsOf}
 use Rattle.cuts.specs.Words.{Shape, Wordwise, OneAmount}
 use Rattle.cuts.proofs.Shape.{shape-itself, kind-shape}
 use Rattle.cuts.proofs.Chains.{Chain, Cut, chain-onward}
-use Rattle.cuts.proofs.Records.{NoneOf, isCover, CoverRead, cover-made, cover-onward, isMember, MemberRead, member-made, member-onward, isFinancingTrade, FinancingTradeRead, financing-trade-onward, ItemRead}
-use Rattle.cuts.proofs.Cutting.{ItemHere, EndHere, isItem, itemsBegin, here-kind, test-item, here-made, here-onward, book-cut}
+use Rattle.cuts.proofs.Records.{NoneOf, isCover, CoverRead, cover-made, cover-over, cover-onward, isMember, MemberRead, member-made, member-over, member-onward, isFinancingTrade, FinancingTradeRead, financing-trade-made, financing-trade-over, financing-trade-onward, ItemRead}
+use Rattle.cuts.proofs.Cutting.{ItemHere, EndHere, item-not-end, itemsBegin, here-made, here-onward, book-cut}
 use Rattle.cuts.proofs.Moved.{Stretch, cover-moved, member-moved}
 use Rattle.cuts.proofs.Local.{stay, member-stays, follows-kind}
 use Rattle.cuts.proofs.Changed.{head-same, here-moved}
@@ -54,7 +54,7 @@ module _ (xs ys : List ℕ) (k : ℕ) where
   pub data MemberOther (at : ℕ) : Member → Member → ℕ → Type 0 where
     trades : MemberOther at (trade (tradeAt xs at)) (trade (tradeAt ys at)) (at + 5)
     credits : (cs : List Cover) {stop : ℕ} → k < at + 6 → MemberOther at (written (writtenAt xs at cs)) (written (writtenAt ys at cs)) stop
-    covers : {cs ds : List Cover} {stop : ℕ} → OneOther CoverOther k cs ds → MemberOther at (written (writtenAt xs at cs)) (written (writtenAt ys at ds)) stop
+    covers : {cs ds : List Cover} {stop : ℕ} → OneOther (CoverRead xs) (CoverRead ys) CoverOther k cs ds → MemberOther at (written (writtenAt xs at cs)) (written (writtenAt ys at ds)) stop
     baskets : MemberOther at (basket (basketAt xs at)) (basket (basketAt ys at)) (at + suc (namesIn (word xs at) + 2))
 
   pub data FinancingTradeOther (at : ℕ) : FinancingTrade → FinancingTrade → ℕ → Type 0 where
@@ -64,8 +64,9 @@ module _ (xs ys : List ℕ) (k : ℕ) where
   pub data ItemOther : Item → Item → ℕ → Type 0 where
     assets : ItemOther (asset (assetAt xs)) (asset (assetAt ys)) 4
     sets : (l : List Member) {stop : ℕ} → k < 4 → ItemOther (derivatives (derivativeSetAt xs l)) (derivatives (derivativeSetAt ys l)) stop
-    members : {l m : List Member} {stop : ℕ} → OneOther MemberOther k l m → ItemOther (derivatives (derivativeSetAt xs l)) (derivatives (derivativeSetAt ys m)) stop
-    financings : {l m : List FinancingTrade} {stop : ℕ} → OneOther FinancingTradeOther k l m → ItemOther (financing (financingSetAt xs l)) (financing (financingSetAt ys m)) stop
+    members : {l m : List Member} {stop : ℕ} → OneOther (MemberRead xs) (MemberRead ys) MemberOther k l m → ItemOther (derivatives (derivativeSetAt xs l)) (derivatives (derivativeSetAt ys m)) stop
+    financings : {l m : List FinancingTrade} {stop : ℕ} → OneOther (FinancingTradeRead xs) (FinancingTradeRead ys) FinancingTradeOther k l m
+        → ItemOther (financing (financingSetAt xs l)) (financing (financingSetAt ys m)) stop
     commitments : ItemOther (offBalance (offBalanceAt xs)) (offBalance (offBalanceAt ys)) 2
 
 -- an item of a book, from its own place on
@@ -79,8 +80,9 @@ pub data PlacedOther (xs ys : List ℕ) (k at : ℕ) : Placed → Placed → ℕ
 once : {A : Type 0} {t : Turn A} {a b : A} {next next′ : ℕ} → t ≡ some a 0 next → t ≡ some b 0 next′ → (a ≡ b) × (next ≡ next′)
 once e f = (cc, cc)
 
-not-both : {b : Bool} → b ≡ false → b ≡ true → ⊥
-not-both e f = let z : _≡_ {A = ℕ} 0 1 = cc in omega arith
+-- nothing is read where nothing more follows
+not-over : {A : Type 0} {t : Turn A} {a : A} {next : ℕ} → t ≡ over → t ≡ some a 0 next → ⊥
+not-over e f = let z : _≡_ {A = ℕ} 0 1 = cc in omega arith
 
 module _ {xs ys : List ℕ} {k : ℕ} (o : OneAmount xs ys k) where
   kinds : (i : ℕ) → kindOf (word xs i) ≡ kindOf (word ys i)
@@ -89,13 +91,6 @@ module _ {xs ys : List ℕ} {k : ℕ} (o : OneAmount xs ys k) where
   -- a stretch that the word does not stand in
   untouched : (from to : ℕ) → to ≤ length xs → (from ≤ k → to ≤ k) → Stretch stay xs ys from to
   untouched from to h n = record { within = h; there = omega (arith, o .long); even = λ at j l. refl; words = λ i l m. o .others i (λ z. omega (arith, n (omega arith))) }
-
-  -- where none stands in the one none does in the other
-  none-first : (test : ℕ → Bool) (at : ℕ) → NoneOf test xs at → test (kindOf (word ys at)) ≡ true → ⊥
-  none-first test at e = not-both (rw (kinds at) at e)
-
-  none-second : (test : ℕ → Bool) (at : ℕ) → NoneOf test ys at → test (kindOf (word xs at)) ≡ true → ⊥
-  none-second test at e = not-both (rw (← kinds at) at e)
 
   -- a word of another kind than 0 stands elsewhere
   not-there : (at : ℕ) {kind : ℕ} → kindOf (word xs at) ≡ suc kind → at ≡ k → ⊥
@@ -113,9 +108,6 @@ module _ {xs ys : List ℕ} {k : ℕ} (o : OneAmount xs ys k) where
 
   -- ---- covers
 
-  cover-is : (ws : List ℕ) (at : ℕ) (c : Cover) (next : ℕ) → CoverRead ws at c next → isCover (kindOf (word ws at)) ≡ true
-  cover-is ws at c next (CoverRead.one w) = rw (w .of)
-
   cover-steps : Steps (CoverRead xs) (CoverRead ys) (NoneOf isCover xs) (NoneOf isCover ys) (CoverOther xs ys k) k
   cover-steps = record {
     onward = λ at c next r. cover-onward xs at c next r .0;
@@ -123,19 +115,14 @@ module _ {xs ys : List ℕ} {k : ℕ} (o : OneAmount xs ys k) where
         let w = cover-onward xs at c next r in
         once (cover-made ys at c next (cover-moved (untouched at next (w .1) h) at c next (omega arith) (omega arith) r)) (cover-made ys at d next′ s);
     step = λ at c d next next′ h l r s. step at c d next next′ r s;
-    first-ends = λ at c next e s. none-first isCover at e (cover-is ys at c next s);
-    second-ends = λ at c next e r. none-second isCover at e (cover-is xs at c next r);
+    first-ends = λ at c next e s. not-over (cover-over ys at (rw (← kinds at) e)) (cover-made ys at c next s);
+    second-ends = λ at c next e r. not-over (cover-over xs at (rw (kinds at) e)) (cover-made xs at c next r);
   }
     where
       step : (at : ℕ) (c d : Cover) (next next′ : ℕ) → CoverRead xs at c next → CoverRead ys at d next′ → (next ≡ next′) × CoverOther xs ys k at c d next
       step at c d next next′ (CoverRead.one w) (CoverRead.one v) = (refl, CoverOther.covers)
 
   -- ---- members
-
-  member-is : (ws : List ℕ) (at : ℕ) (m : Member) (next : ℕ) → MemberRead ws at m next → isMember (kindOf (word ws at)) ≡ true
-  member-is ws at m next (MemberRead.of-trade w) = rw (w .of)
-  member-is ws at m next (MemberRead.of-credit w c) = rw (w .of)
-  member-is ws at m next (MemberRead.of-basket w) = rw (w .of)
 
   credit-step : (at stop stop′ : ℕ) (cs ds : List Cover) → k < stop → Cut (CoverRead xs) (NoneOf isCover xs) (at + 6) cs stop → Cut (CoverRead ys) (NoneOf isCover ys) (at + 6) ds stop′
       → (stop ≡ stop′) × MemberOther xs ys k at (written (writtenAt xs at cs)) (written (writtenAt ys at ds)) stop
@@ -165,14 +152,11 @@ module _ {xs ys : List ℕ} {k : ℕ} (o : OneAmount xs ys k) where
         let same = member-moved (untouched at next (w .1) h) (λ e. rw (← kinds next) e) at m next (omega arith) (omega arith) r in
         once (member-made ys at m next (rw (member-stays m) at same)) (member-made ys at n next′ s);
     step = member-step;
-    first-ends = λ at m next e s. none-first isMember at e (member-is ys at m next s);
-    second-ends = λ at m next e r. none-second isMember at e (member-is xs at m next r);
+    first-ends = λ at m next e s. not-over (member-over ys at (rw (← kinds at) e)) (member-made ys at m next s);
+    second-ends = λ at m next e r. not-over (member-over xs at (rw (kinds at) e)) (member-made xs at m next r);
   }
 
   -- ---- financing trades: of two that do not hold the word the words are the same, though a trade's causes look at the days before it
-
-  financing-is : (ws : List ℕ) (at : ℕ) (t : FinancingTrade) (next : ℕ) → FinancingTradeRead ws at t next → isFinancingTrade (kindOf (word ws at)) ≡ true
-  financing-is ws at t next (FinancingTradeRead.one w) = rw (w .of)
 
   financing-same : (at : ℕ) (t u : FinancingTrade) (next next′ : ℕ) → (at ≤ k → next ≤ k) → FinancingTradeRead xs at t next → FinancingTradeRead ys at u next′ → (t ≡ u) × (next ≡ next′)
   unfolding financingTradeAt
@@ -186,8 +170,8 @@ module _ {xs ys : List ℕ} {k : ℕ} (o : OneAmount xs ys k) where
     onward = λ at t next r. financing-trade-onward xs at t next r .0;
     same = financing-same;
     step = λ at t u next next′ h l r s. step at t u next next′ r s;
-    first-ends = λ at t next e s. none-first isFinancingTrade at e (financing-is ys at t next s);
-    second-ends = λ at t next e r. none-second isFinancingTrade at e (financing-is xs at t next r);
+    first-ends = λ at t next e s. not-over (financing-trade-over ys at (rw (← kinds at) e)) (financing-trade-made ys at t next s);
+    second-ends = λ at t next e r. not-over (financing-trade-over xs at (rw (kinds at) e)) (financing-trade-made xs at t next r);
   }
     where
       step : (at : ℕ) (t u : FinancingTrade) (next next′ : ℕ) → FinancingTradeRead xs at t next → FinancingTradeRead ys at u next′ → (next ≡ next′) × FinancingTradeOther xs ys k at t u next
@@ -205,26 +189,23 @@ module _ {xs ys : List ℕ} {k : ℕ} (o : OneAmount xs ys k) where
 
   item-step : (i j : Item) (n m : ℕ) → k < n → ItemRead xs i n → ItemRead ys j m → (n ≡ m) × ItemOther xs ys k i j n
   item-step i j n m h (ItemRead.of-asset w) (ItemRead.of-asset v) = (refl, ItemOther.assets)
-  item-step i j n m h (ItemRead.of-asset w) (ItemRead.of-set v d) = clash 0 2 4 (w .of) (v .of) refl
+  item-step i j n m h (ItemRead.of-asset w) (ItemRead.of-derivatives v d) = clash 0 2 4 (w .of) (v .of) refl
   item-step i j n m h (ItemRead.of-asset w) (ItemRead.of-financing v d) = clash 0 2 8 (w .of) (v .of) refl
-  item-step i j n m h (ItemRead.of-asset w) (ItemRead.of-commitment v) = clash 0 2 10 (w .of) (v .of) refl
-  item-step i j n m h (ItemRead.of-set w c) (ItemRead.of-asset v) = clash 0 4 2 (w .of) (v .of) refl
-  item-step i j n m h (ItemRead.of-set {members = l} w c) (ItemRead.of-set {members = l′} v d) = set-step n m l l′ h c d
-  item-step i j n m h (ItemRead.of-set w c) (ItemRead.of-financing v d) = clash 0 4 8 (w .of) (v .of) refl
-  item-step i j n m h (ItemRead.of-set w c) (ItemRead.of-commitment v) = clash 0 4 10 (w .of) (v .of) refl
+  item-step i j n m h (ItemRead.of-asset w) (ItemRead.of-off-balance v) = clash 0 2 10 (w .of) (v .of) refl
+  item-step i j n m h (ItemRead.of-derivatives w c) (ItemRead.of-asset v) = clash 0 4 2 (w .of) (v .of) refl
+  item-step i j n m h (ItemRead.of-derivatives {members = l} w c) (ItemRead.of-derivatives {members = l′} v d) = set-step n m l l′ h c d
+  item-step i j n m h (ItemRead.of-derivatives w c) (ItemRead.of-financing v d) = clash 0 4 8 (w .of) (v .of) refl
+  item-step i j n m h (ItemRead.of-derivatives w c) (ItemRead.of-off-balance v) = clash 0 4 10 (w .of) (v .of) refl
   item-step i j n m h (ItemRead.of-financing w c) (ItemRead.of-asset v) = clash 0 8 2 (w .of) (v .of) refl
-  item-step i j n m h (ItemRead.of-financing w c) (ItemRead.of-set v d) = clash 0 8 4 (w .of) (v .of) refl
+  item-step i j n m h (ItemRead.of-financing w c) (ItemRead.of-derivatives v d) = clash 0 8 4 (w .of) (v .of) refl
   item-step i j n m h (ItemRead.of-financing w c) (ItemRead.of-financing v d) =
       let l : 1 ≤ k = behind-it 0 (w .of) (omega arith) in
       let q = chains-other financing-steps l h (c .chain) (c .last) (d .chain) (d .last) in (q .0, ItemOther.financings (q .1))
-  item-step i j n m h (ItemRead.of-financing w c) (ItemRead.of-commitment v) = clash 0 8 10 (w .of) (v .of) refl
-  item-step i j n m h (ItemRead.of-commitment w) (ItemRead.of-asset v) = clash 0 10 2 (w .of) (v .of) refl
-  item-step i j n m h (ItemRead.of-commitment w) (ItemRead.of-set v d) = clash 0 10 4 (w .of) (v .of) refl
-  item-step i j n m h (ItemRead.of-commitment w) (ItemRead.of-financing v d) = clash 0 10 8 (w .of) (v .of) refl
-  item-step i j n m h (ItemRead.of-commitment w) (ItemRead.of-commitment v) = (refl, ItemOther.commitments)
-
-is-item : (ws : List ℕ) (at : ℕ) (p : Placed) (next : ℕ) → ItemHere ws at p next → isItem (kindOf (word ws at)) ≡ true
-is-item ws at p next h = rw (here-kind ws at p next h) (test-item isItem true refl refl refl refl (p .item))
+  item-step i j n m h (ItemRead.of-financing w c) (ItemRead.of-off-balance v) = clash 0 8 10 (w .of) (v .of) refl
+  item-step i j n m h (ItemRead.of-off-balance w) (ItemRead.of-asset v) = clash 0 10 2 (w .of) (v .of) refl
+  item-step i j n m h (ItemRead.of-off-balance w) (ItemRead.of-derivatives v d) = clash 0 10 4 (w .of) (v .of) refl
+  item-step i j n m h (ItemRead.of-off-balance w) (ItemRead.of-financing v d) = clash 0 10 8 (w .of) (v .of) refl
+  item-step i j n m h (ItemRead.of-off-balance w) (ItemRead.of-off-balance v) = (refl, ItemOther.commitments)
 
 module _ {xs ys : List ℕ} {k : ℕ} (o : OneAmount xs ys k) where
   here-step : (at : ℕ) (p q : Placed) (next next′ : ℕ) → at ≤ k → k < next → ItemHere xs at p next → ItemHere ys at q next′ → (next ≡ next′) × PlacedOther xs ys k at p q next
@@ -239,13 +220,13 @@ module _ {xs ys : List ℕ} {k : ℕ} (o : OneAmount xs ys k) where
         let w = here-onward xs at p next r in
         once (here-made ys at p next (here-moved (untouched o at next (w .1) h) (follows-kind stay xs ys next (kinds o next)) at p next (omega arith) (omega arith) r)) (here-made ys at q next′ s);
     step = here-step;
-    first-ends = λ at p next e s. none-first o isItem at (rw (e .of)) (is-item ys at p next s);
-    second-ends = λ at p next e r. none-second o isItem at (rw (e .of)) (is-item xs at p next r);
+    first-ends = λ at p next e s. item-not-end ys at p next s (sym (kinds o at) ∙ e .of);
+    second-ends = λ at p next e r. item-not-end xs at p next r (kinds o at ∙ e .of);
   }
 
   -- ONE AMOUNT OTHER, in an item: the books have the same head, end at the same place, and all items but that one are the same
   pub items-other : itemsOf xs .number ≡ 0 → itemsOf ys .number ≡ 0 → itemsBegin xs ≤ k
-      → (headOf xs ≡ headOf ys) × (itemsOf xs .place ≡ itemsOf ys .place) × OneOther (PlacedOther xs ys k) k (itemsOf xs .records) (itemsOf ys .records)
+      → (headOf xs ≡ headOf ys) × (itemsOf xs .place ≡ itemsOf ys .place) × OneOther (ItemHere xs) (ItemHere ys) (PlacedOther xs ys k) k (itemsOf xs .records) (itemsOf ys .records)
   items-other e f h =
       let c = book-cut xs e in
       let d = book-cut ys f in

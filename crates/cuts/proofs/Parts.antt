@@ -2,10 +2,10 @@
 -- parts are equal word for word just where the parts are. Assumes nothing.
 use Prim.Native.Nat.{ℕ, _+_, _-_, _*_, _≤_}
 use mathlib.Core.Path.{_≡_, refl, sym, _∙_, ap}
-use mathlib.Core.List.{List, [], _∷_, _++_, map, append-assoc}
+use mathlib.Core.List.{List, [], _∷_, _++_, map, append-assoc, Forall₂·nil, Forall₂·cons}
 use native.Mathlib.Omega.{arith}
 use lib.ListN.{length, take, drop, length-append, take-append-drop}
-use lib.Seq.{take-append-seam, drop-append-seam, drop-drop, drop-cons, drop-length, length-take-le, take-take}
+use lib.Seq.{take-append-seam, drop-append-seam, getD-append-add, getD-append-seam, drop-drop, drop-cons, drop-length, length-take-le, take-take}
 use Rattle.rules.specs.Word.{word, kindOf, payloadOf}
 use Rattle.rules.specs.Book.{Head, Protection, Item, Placed}
 use Rattle.rules.specs.Read.{firstRecord, headOf, protectionsOf, itemsOf}
@@ -30,22 +30,23 @@ abbrev pub itemIn : Placed → Item
 itemIn p = p .item
 
 -- one item: its words, and what is left behind them
-one-part : (ws : List ℕ) (at : ℕ) (p : Placed) (next : ℕ) → ItemHere ws at p next → OneItem (wordsOf ws p) (p .item) × (drop at ws ≡ wordsOf ws p ++ drop next ws)
+pub one-part : (ws : List ℕ) (at : ℕ) (p : Placed) (next : ℕ) → ItemHere ws at p next → OneItem (wordsOf ws p) (p .item) × (drop at ws ≡ wordsOf ws p ++ drop next ws)
 one-part ws at p next (ItemHere.here {i} {n} r) =
     let m : at + n - at ≡ n = omega arith in
     rw m (item-alone n i (drop at ws) r, sym (take-append-drop n (drop at ws)) ∙ ap (λ (v : List ℕ). take n (drop at ws) ++ v) (drop-drop n at ws))
 
+-- the words from a place on are those of these items, and then those from another place on
 pub record Parts (ws : List ℕ) (at : ℕ) (l : List Placed) (stop : ℕ) : Type 0 where
   pub reading : Reading (map (wordsOf ws) l) (map itemIn l)
   pub words : drop at ws ≡ joined (map (wordsOf ws) l) ++ drop stop ws
 
 chain-parts : (ws : List ℕ) {at stop : ℕ} {l : List Placed} → Chain (ItemHere ws) at l stop → Parts ws at l stop
-chain-parts ws Chain.done = record { reading = Reading.none; words = refl }
+chain-parts ws Chain.done = record { reading = Forall₂·nil; words = refl }
 chain-parts ws (Chain.then {at} {next} {stop} {a = p} {l} r c) =
     let o = one-part ws at p next r in
     let q = chain-parts ws c in
     record {
-      reading = Reading.more (o .0) (q .reading);
+      reading = Forall₂·cons (o .0) (q .reading);
       words = o .1 ∙ ap (λ (v : List ℕ). wordsOf ws p ++ v) (q .words) ∙ sym (append-assoc (wordsOf ws p) (joined (map (wordsOf ws) l)) (drop stop ws));
     }
 
@@ -100,14 +101,15 @@ module _ (ws : List ℕ) (e : itemsOf ws .number ≡ 0) where
 
 -- the parts are told by the words
 placed-words : (ws end : List ℕ) {l : List (List ℕ)} {m : List Item} → Reading l m → (at : ℕ) → drop at ws ≡ joined l ++ end → map (wordsOf ws) (placedFrom at l m) ≡ l
-placed-words ws end Reading.none at e = refl
-placed-words ws end (Reading.more {w} {i} {ws = l} {l = m} o r) at e =
+placed-words ws end Forall₂·nil at e = refl
+placed-words ws end (Forall₂·cons {a = w} {b = i} {l₁ = l} {l₂ = m} o r) at e =
     let s : drop at ws ≡ w ++ (joined l ++ end) = e ∙ append-assoc w (joined l) end in
     let n : at + length w - at ≡ length w = omega arith in
     let one : take (at + length w - at) (drop at ws) ≡ w = rw (n, s) (take-append-seam w (joined l ++ end)) in
     rw (one, placed-words ws end r (at + length w) (behind-words ws w _ at s))
 
 module _ {front : List ℕ} {ps : List Protection} {items : List (List ℕ)} {is : List Item} {end : ℕ} (b : BookParts front ps items is end) where
+  -- a book written of parts has just these parts
   pub parts-back : partsOf (bookOf front items end) ≡ items
   parts-back =
       rw (written-items b)
@@ -117,6 +119,9 @@ module _ {front : List ℕ} {ps : List Protection} {items : List (List ℕ)} {is
   front-back =
       rw (← written-head b, ← b .front-good .long)
       (take-append-seam front (joined items ++ (end ∷ [])))
+
+  pub end-back : endOf (bookOf front items end) ≡ end
+  end-back = rw (written-items b) (getD-append-add front (joined items ++ (end ∷ [])) (length (joined items)) 0 ∙ getD-append-seam (joined items) end [] 0)
 
 -- TWO BOOKS OF PARTS are equal just where the parts are
 module _ {front front′ : List ℕ} {ps ps′ : List Protection} {items items′ : List (List ℕ)} {is is′ : List Item} {end end′ : ℕ}

@@ -60,13 +60,13 @@ module _ (test : ℕ → Bool) (none : test 0 ≡ false) (ws : List ℕ) where
   -- records read in the words from b on: place `at` there is place x of the book
   module _ (b : ℕ) where
     -- a search finds what is in the record there
-    abbrev pub Scans : {A : Type 0} → (A → ℕ) → (ℕ → A → List ℕ) → (ℕ → A → ℕ → Type 0) → Type 0
+    abbrev Scans : {A : Type 0} → (A → ℕ) → (ℕ → A → List ℕ) → (ℕ → A → ℕ → Type 0) → Type 0
     Scans {A} size places R = (at : ℕ) (a : A) (next : ℕ) → R at a next → (x : ℕ) → x ≡ b + at → scan test ws x (size a) ≡ places x a
 
-    pub cover-scan : Scans coverLength (coverPlaces test) (CoverRead (drop b ws))
+    cover-scan : Scans coverLength (coverPlaces test) (CoverRead (drop b ws))
     cover-scan at c next (CoverRead.one w) x e = whole-scan test none ws b 7 _ at x e w
 
-    pub member-scan : Scans memberLength (memberPlaces test) (MemberRead (drop b ws))
+    member-scan : Scans memberLength (memberPlaces test) (MemberRead (drop b ws))
     unfolding writtenAt
     member-scan at m next (MemberRead.of-trade w) x e = whole-scan test none ws b 5 _ at x e w
     member-scan at m next (MemberRead.of-credit {covers} w c) x e =
@@ -75,22 +75,22 @@ module _ (test : ℕ → Bool) (none : test 0 ≡ false) (ws : List ℕ) where
     member-scan at m next (MemberRead.of-basket w) x e =
         ap (scan test ws x) (omega (arith, member-length (drop b ws) at m next (MemberRead.of-basket w))) ∙ whole-scan test none ws b 11 _ at x e w
 
-    pub financing-trade-scan : Scans financingTradeLength (financingTradePlaces test) (FinancingTradeRead (drop b ws))
+    financing-trade-scan : Scans financingTradeLength (financingTradePlaces test) (FinancingTradeRead (drop b ws))
     financing-trade-scan at t next (FinancingTradeRead.one w) x e = whole-scan test none ws b 9 _ at x e w
 
-    pub protection-scan : Scans protectionLength (protectionPlaces test) (ProtectionRead (drop b ws))
+    protection-scan : Scans protectionLength (protectionPlaces test) (ProtectionRead (drop b ws))
     protection-scan at p next (ProtectionRead.one w) x e = whole-scan test none ws b 3 _ at x e w
 
     item-scan : (i : Item) (n : ℕ) → ItemRead (drop b ws) i n → scan test ws b (itemLength i) ≡ itemPlaces test b i
     unfolding scan derivativeSetAt financingSetAt
     item-scan i n (ItemRead.of-asset w) = head-scan test none ws b 2 _ 0 b 0 [] (omega arith) w refl
-    item-scan i n (ItemRead.of-set {members} w c) =
+    item-scan i n (ItemRead.of-derivatives {members} w c) =
         head-scan test none ws b 4 _ 0 b (total memberLength members) _ (omega arith) w
         (chain-scan test none ws b memberLength (memberPlaces test) (member-length (drop b ws)) member-scan (c .chain) (b + 4) refl)
     item-scan i n (ItemRead.of-financing {trades} w c) =
         head-scan test none ws b 8 _ 0 b (total financingTradeLength trades) _ (omega arith) w
         (chain-scan test none ws b financingTradeLength (financingTradePlaces test) (financing-trade-length (drop b ws)) financing-trade-scan (c .chain) (b + 1) refl)
-    item-scan i n (ItemRead.of-commitment w) = head-scan test none ws b 10 _ 0 b 0 [] (omega arith) w refl
+    item-scan i n (ItemRead.of-off-balance w) = head-scan test none ws b 10 _ 0 b 0 [] (omega arith) w refl
 
   -- AN ITEM of the book
   pub here-scan : (at : ℕ) (p : Placed) (next : ℕ) → ItemHere ws at p next → scan test ws at (placedLength p) ≡ placedPlaces test at p
@@ -110,7 +110,7 @@ module _ (test : ℕ → Bool) (none : test 0 ≡ false) (ws : List ℕ) where
         rw (long, scan-add test ws n 1 (itemsBegin ws), s, ← stop, c .end .of, append-nil (marked (test 15) (itemsOf ws .place)))
 
     -- IN THE PROTECTIONS
-    pub protections-scan : scan test ws firstRecord (4 * headOf ws .protections) ≡ along protectionLength (protectionPlaces test) firstRecord (protectionsOf ws .records)
+    protections-scan : scan test ws firstRecord (4 * headOf ws .protections) ≡ along protectionLength (protectionPlaces test) firstRecord (protectionsOf ws .records)
     protections-scan =
         let c = book-cut ws e in
         let stop = chain-length protectionLength (protection-length ws) (c .protections) in

@@ -113,7 +113,8 @@ isFinancingTrade kind = eqb kind 9
 
 abbrev pub financingTradeFaultAt : List ℕ → ℕ → ℕ
 financingTradeFaultAt ws at =
-    financingTradeFault (bitOf 1 (word ws 0)) (lastDaysAt ws at) (word ws at) (word ws (at + 1)) (word ws (at + 2)) (word ws (at + 3)) (word ws (at + 4)) (word ws (at + 5)) (word ws (at + 6)) (word ws (at + 7))
+    financingTradeFault (bitOf 1 (word ws 0)) (lastDaysAt ws at)
+    (word ws at) (word ws (at + 1)) (word ws (at + 2)) (word ws (at + 3)) (word ws (at + 4)) (word ws (at + 5)) (word ws (at + 6)) (word ws (at + 7))
 
 pub data FinancingTradeRead (ws : List ℕ) (at : ℕ) : FinancingTrade → ℕ → Type 0 where
   one : Whole 9 (financingTradeFaultAt ws at) ws at → FinancingTradeRead ws at (financingTradeAt ws at) (at + 8)
@@ -157,11 +158,11 @@ offBalanceFaultAt ws = offBalanceFault (word ws 0) (word ws 1)
 
 pub data ItemRead (ws : List ℕ) : Item → ℕ → Type 0 where
   of-asset : Whole 2 (assetFaultAt ws) ws 0 → ItemRead ws (asset (assetAt ws)) 4
-  of-set : {members : List Member} {stop : ℕ} → Whole 4 (derivativeSetFaultAt ws) ws 0 → Cut (MemberRead ws) (NoneOf isMember ws) 4 members stop
+  of-derivatives : {members : List Member} {stop : ℕ} → Whole 4 (derivativeSetFaultAt ws) ws 0 → Cut (MemberRead ws) (NoneOf isMember ws) 4 members stop
       → ItemRead ws (derivatives (derivativeSetAt ws members)) stop
   of-financing : {trades : List FinancingTrade} {stop : ℕ} → Whole 8 (financingSetFaultAt ws) ws 0 → Cut (FinancingTradeRead ws) (NoneOf isFinancingTrade ws) 1 trades stop
       → ItemRead ws (financing (financingSetAt ws trades)) stop
-  of-commitment : Whole 10 (offBalanceFaultAt ws) ws 0 → ItemRead ws (offBalance (offBalanceAt ws)) 2
+  of-off-balance : Whole 10 (offBalanceFaultAt ws) ws 0 → ItemRead ws (offBalance (offBalanceAt ws)) 2
 
 module _ (ws : List ℕ) where
   abbrev wrapMembers : List Member → Item
@@ -189,20 +190,21 @@ module _ (ws : List ℕ) where
       (seen-if ws 0 _ _ (eqb (kindOf (word ws 0)) 2) _ _
       (λ e. seen-single ws 0 _ _ 1 _ _ (eqb-true _ 2 e) ItemRead.of-asset)
       (λ _. seen-if ws 0 _ _ (eqb (kindOf (word ws 0)) 4) _ _
-      (λ e. seen-set ws (memberTurn ws) (member-view ws) wrapMembers 0 _ _ 3 _ (eqb-true _ 4 e) (λ w l stop c. ItemRead.of-set w c))
+      (λ e. seen-set ws (memberTurn ws) (member-view ws) wrapMembers 0 _ _ 3 _ (eqb-true _ 4 e) (λ w l stop c. ItemRead.of-derivatives w c))
       (λ _. seen-if ws 0 _ _ (eqb (kindOf (word ws 0)) 8) _ _
       (λ e. seen-set ws (financingMemberTurn ws) (financing-trade-view ws) wrapTrades 0 _ _ 7 _ (eqb-true _ 8 e) (λ w l stop c. ItemRead.of-financing w c))
       (λ _. seen-if ws 0 _ _ (eqb (kindOf (word ws 0)) 10) _ _
-      (λ e. seen-single ws 0 _ _ 9 _ _ (eqb-true _ 10 e) ItemRead.of-commitment)
+      (λ e. seen-single ws 0 _ _ 9 _ _ (eqb-true _ 10 e) ItemRead.of-off-balance)
       (λ _. View.faulty)))))
 
   pub item-made : (i : Item) (n : ℕ) → ItemRead ws i n → itemOf ws ≡ some i 0 n
   item-made i n (ItemRead.of-asset w) = item-turn ∙ rw (w .of) (record-made 2 (assetFaultAt ws) ws 0 (some (asset (assetAt ws)) 0) w)
-  item-made i n (ItemRead.of-set {members} {stop} w c) =
+  item-made i n (ItemRead.of-derivatives {members} {stop} w c) =
       item-turn ∙ rw (w .of) (set-made ws (memberTurn ws) (member-view ws) wrapMembers (member-made ws) (member-over ws) 0 3 (derivativeSetFaultAt ws) members stop w c)
   item-made i n (ItemRead.of-financing {trades} {stop} w c) =
-      item-turn ∙ rw (w .of) (set-made ws (financingMemberTurn ws) (financing-trade-view ws) wrapTrades (financing-trade-made ws) (financing-trade-over ws) 0 7 (financingSetFaultAt ws) trades stop w c)
-  item-made i n (ItemRead.of-commitment w) = item-turn ∙ rw (w .of) (record-made 10 (offBalanceFaultAt ws) ws 0 (some (offBalance (offBalanceAt ws)) 0) w)
+      item-turn
+      ∙ rw (w .of) (set-made ws (financingMemberTurn ws) (financing-trade-view ws) wrapTrades (financing-trade-made ws) (financing-trade-over ws) 0 7 (financingSetFaultAt ws) trades stop w c)
+  item-made i n (ItemRead.of-off-balance w) = item-turn ∙ rw (w .of) (record-made 10 (offBalanceFaultAt ws) ws 0 (some (offBalance (offBalanceAt ws)) 0) w)
 
 -- ---- protections
 

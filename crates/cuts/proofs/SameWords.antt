@@ -51,7 +51,7 @@ amounts-plain n ws at e i h l =
     let k : kindOf (word ws i) ≡ 0 = ap (λ (j : ℕ). kindOf (word ws j)) (sym z) ∙ amount-kind n ws at e (i - suc at) (omega arith) in
     rw k
 
--- so no word of a whole record is that is no cover,
+-- so no word of a whole record of another kind is,
 pub whole-plain : (kind fault : ℕ) (ws : List ℕ) (at : ℕ) → Whole kind fault ws at → mayDiffer kind ≡ false → Plain ws at (at + suc (amountsAt kind ws at))
 whole-plain kind fault ws at w d = plain-append ws at (suc at) _ (plain-one ws at _ (omega arith) (rw (w .of) d)) (amounts-plain (amountsAt kind ws at) ws at (w .amounts))
 
@@ -72,13 +72,13 @@ head-plain ws e d =
 -- ---- they are the same in both
 
 -- so many words are the same, and behind them it goes on so
-pub record Front (n : ℕ) (u v : List ℕ) : Type 0 where
+pub record SameFirst (n : ℕ) (u v : List ℕ) : Type 0 where
   pub words : Stretch stay v u 0 n
   pub rest : Inserted (drop n u) (drop n v)
 
 -- so with the same word before both
-front-more : (n a : ℕ) (u v : List ℕ) → Front n u v → Front (suc n) (a ∷ u) (a ∷ v)
-front-more n a u v f =
+first-more : (n a : ℕ) (u v : List ℕ) → SameFirst n u v → SameFirst (suc n) (a ∷ u) (a ∷ v)
+first-more n a u v f =
     record { words = record { within = omega (arith, f .words .within); there = omega (arith, f .words .there); even = λ at k l. refl; words = equal }; rest = f .rest }
   where
     equal : (at : ℕ) → 0 ≤ at → at < suc n → word (a ∷ v) at ≡ word (a ∷ u) at
@@ -86,11 +86,11 @@ front-more n a u v f =
     equal (suc at) h l = f .words .words at (omega arith) (omega arith)
 
 -- the words of the second in which the two cannot differ are those of the first
-pub front : (n : ℕ) {u v : List ℕ} → Inserted u v → Plain v 0 n → Front n u v
-front zero r p = record { words = record { within = omega arith; there = omega arith; even = λ at k l. refl; words = λ at h l. let z : ⊥ = omega arith in absurd z }; rest = r }
-front (suc n) (Inserted.same {a} {xs} {ys} r) p = front-more n a xs ys (front n r (λ at h l. p (suc at) (omega arith) (omega arith)))
-front (suc n) (Inserted.put k z r) p = let e = rw k at (p 0 (omega arith) (omega arith)) in let y : _≡_ {A = ℕ} 0 1 = cc in absurd (omega arith)
-front (suc n) (Inserted.ends k l) p = let e = rw l at (p 0 (omega arith) (omega arith)) in let y : _≡_ {A = ℕ} 0 1 = cc in absurd (omega arith)
+pub same-first : (n : ℕ) {u v : List ℕ} → Inserted u v → Plain v 0 n → SameFirst n u v
+same-first zero r p = record { words = record { within = omega arith; there = omega arith; even = λ at k l. refl; words = λ at h l. let z : ⊥ = omega arith in absurd z }; rest = r }
+same-first (suc n) (Inserted.same {a} {xs} {ys} r) p = first-more n a xs ys (same-first n r (λ at h l. p (suc at) (omega arith) (omega arith)))
+same-first (suc n) (Inserted.put k z r) p = let e = rw k at (p 0 (omega arith) (omega arith)) in let y : _≡_ {A = ℕ} 0 1 = cc in absurd (omega arith)
+same-first (suc n) (Inserted.ends k l) p = let e = rw l at (p 0 (omega arith) (omega arith)) in let y : _≡_ {A = ℕ} 0 1 = cc in absurd (omega arith)
 
 -- ---- at places of the two books
 
@@ -117,8 +117,8 @@ pub record Shifted (n : ℕ) (xs ys : List ℕ) (i j : ℕ) : Type 0 where
   pub rest : From xs ys (i + n) (j + n)
 
 -- the first words of what is left, as words of the whole books
-front-shifted : (n : ℕ) (xs ys : List ℕ) (i j : ℕ) → Front (suc n) (drop i xs) (drop j ys) → Shifted (suc n) xs ys i j
-front-shifted n xs ys i j f = record {
+first-shifted : (n : ℕ) (xs ys : List ℕ) (i j : ℕ) → SameFirst (suc n) (drop i xs) (drop j ys) → Shifted (suc n) xs ys i j
+first-shifted n xs ys i j f = record {
   words = record {
     within = omega (arith, f .words .within, length-drop j ys);
     there = omega (arith, f .words .there, length-drop i xs);
@@ -133,19 +133,19 @@ front-shifted n xs ys i j f = record {
 -- a whole record of the second that is no cover stands in both
 pub whole-beside : (kind fault : ℕ) (xs ys : List ℕ) (i j : ℕ) → Whole kind fault ys j → mayDiffer kind ≡ false → From xs ys i j → Shifted (suc (amountsAt kind ys j)) xs ys i j
 whole-beside kind fault xs ys i j w d r =
-    front-shifted (amountsAt kind ys j) xs ys i j
-    (front (suc (amountsAt kind ys j)) r (λ at h l. rw (getD-drop j ys at 0) (whole-plain kind fault ys j w d (j + at) (omega arith) (omega arith))))
+    first-shifted (amountsAt kind ys j) xs ys i j
+    (same-first (suc (amountsAt kind ys j)) r (λ at h l. rw (getD-drop j ys at 0) (whole-plain kind fault ys j w d (j + at) (omega arith) (omega arith))))
 
 -- a cover of the second stands in both, or was put in
 pub cover-beside : (fault : ℕ) (xs ys : List ℕ) (i j : ℕ) → Whole 7 fault ys j → From xs ys i j → Shifted 2 xs ys i j ⊎ From xs ys i (j + 2)
 cover-beside fault xs ys i j w r =
-    go (cover-front r (ap kindOf (head-word ys j) ∙ w .of) (rw (getD-drop j ys 1 0) (amounts-plain 1 ys j (w .amounts) (j + 1) (omega arith) (omega arith))))
+    go (cover-first r (ap kindOf (head-word ys j) ∙ w .of) (rw (getD-drop j ys 1 0) (amounts-plain 1 ys j (w .amounts) (j + 1) (omega arith) (omega arith))))
   where
-    cover-front : {u v : List ℕ} → Inserted u v → kindOf (word v 0) ≡ 7 → NoneOf mayDiffer v 1 → Front 2 u v ⊎ Inserted u (drop 2 v)
-    cover-front (Inserted.same {a} {xs} {ys} r) k z = inl (front-more 1 a xs ys (front 1 r (plain-one ys 0 1 (omega arith) z)))
-    cover-front (Inserted.put c d r) k z = inr r
-    cover-front (Inserted.ends c d) k z = let e = sym d ∙ k in let y : ⊥ = omega arith in absurd y
+    cover-first : {u v : List ℕ} → Inserted u v → kindOf (word v 0) ≡ 7 → NoneOf mayDiffer v 1 → SameFirst 2 u v ⊎ Inserted u (drop 2 v)
+    cover-first (Inserted.same {a} {xs} {ys} r) k z = inl (first-more 1 a xs ys (same-first 1 r (plain-one ys 0 1 (omega arith) z)))
+    cover-first (Inserted.put c d r) k z = inr r
+    cover-first (Inserted.ends c d) k z = let e = sym d ∙ k in let y : ⊥ = omega arith in absurd y
 
-    go : Front 2 (drop i xs) (drop j ys) ⊎ Inserted (drop i xs) (drop 2 (drop j ys)) → Shifted 2 xs ys i j ⊎ From xs ys i (j + 2)
-    go (inl f) = inl (front-shifted 1 xs ys i j f)
+    go : SameFirst 2 (drop i xs) (drop j ys) ⊎ Inserted (drop i xs) (drop 2 (drop j ys)) → Shifted 2 xs ys i j ⊎ From xs ys i (j + 2)
+    go (inl f) = inl (first-shifted 1 xs ys i j f)
     go (inr p) = inr (rw (← drop-drop 2 j ys) p)

@@ -14,12 +14,12 @@ use lib.Seq.{getD-drop, getD-set-same, getD-set-other, set-out}
 use Rattle.rules.specs.Word.{word, kindOf, namesIn, amountsOfKind, amountsIn}
 use Rattle.rules.specs.Book.{Protection, Member, Item, Placed}
 use Rattle.rules.specs.Run.{Turn, over, bad, some, ended, runFrom, sound}
-use Rattle.rules.specs.Faults.{protectionFault}
 use Rattle.rules.specs.Read.{lacks, recordThen, stands, protectionAt, protectionTurn, writtenTurn, tradeTurn, basketTurn, memberTurn, assetTurn, derivativeSetTurn, financingSetTurn, offBalanceTurn, itemOf, placed, endFault, itemTurn, protectionsOf, itemsOf}
 use Rattle.rules.proofs.Lists.{Pairs}
 use Rattle.rules.proofs.Runs.{Turns, Both, both-run, sounds, choices}
 use Rattle.laws.proofs.Records.{stands-is, amounts-at}
 use Rattle.cuts.specs.Words.{Shape, Wordwise}
+use Rattle.cuts.proofs.Records.{protectionFaultAt}
 
 -- ---- two words
 
@@ -84,10 +84,6 @@ module _ {A : Type 0} where
 
 -- ---- two books of one shape
 
--- the first cause that a protection's own words give
-abbrev pub protectionCause : List ℕ → ℕ → ℕ
-protectionCause ws at = protectionFault (word ws at) (word ws (at + 1)) (word ws (at + 2)) (word ws (at + 3))
-
 module _ {xs ys : List ℕ} (l : Wordwise Shape xs ys) where
   -- they lack the same words
   pub lacks-same : (n at : ℕ) → lacks n xs at ≡ lacks n ys at
@@ -123,7 +119,7 @@ module _ {xs ys : List ℕ} (l : Wordwise Shape xs ys) where
 
   -- a protection: what is to be shown of it where its kind stands and no word is lacking
   pub protection-turns : (Rel : Protection → Protection → Type 0) (at : ℕ)
-      → (kindOf (word xs at) ≡ 3 → lacks 3 xs at ≡ false → (protectionCause xs at ≡ protectionCause ys at) × Rel (protectionAt xs at) (protectionAt ys at))
+      → (kindOf (word xs at) ≡ 3 → lacks 3 xs at ≡ false → (protectionFaultAt xs at ≡ protectionFaultAt ys at) × Rel (protectionAt xs at) (protectionAt ys at))
       → Turns Rel (protectionTurn xs at) (protectionTurn ys at)
   unfolding protectionTurn
   protection-turns Rel at h =

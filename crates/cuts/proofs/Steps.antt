@@ -1,5 +1,5 @@
--- Two chains from one place whose records are the same but for one, which holds a place: once for items, members, covers and financing trades.
--- Assumes nothing.
+-- Two chains from one place whose records are the same but for one, in whose words a place k stands: once for items, members, covers and financing
+-- trades. Assumes nothing.
 use Prim.Native.Nat.{ℕ, _≤_, _<_}
 use mathlib.Core.Path.{_≡_, refl, ap}
 use mathlib.Core.List.{List, [], _∷_, _++_}
@@ -7,8 +7,8 @@ use native.Mathlib.Omega.{arith}
 use native.Mathlib.Decide.{decLt}
 use Rattle.cuts.proofs.Chains.{Chain}
 
--- the same records but for one, which holds a place
-pub record OneOther {A : Type 0} (J : ℕ → A → A → ℕ → Type 0) (k : ℕ) (l m : List A) : Type 0 where
+-- the same records but for one, in whose words k stands, and how that one is read in either
+pub record OneOther {A : Type 0} (R S : ℕ → A → ℕ → Type 0) (J : ℕ → A → A → ℕ → Type 0) (k : ℕ) (l m : List A) : Type 0 where
   pub before : List A
   pub first : A
   pub second : A
@@ -17,12 +17,14 @@ pub record OneOther {A : Type 0} (J : ℕ → A → A → ℕ → Type 0) (k : �
   pub next : ℕ
   pub from : at ≤ k
   pub below : k < next
+  pub reads-first : R at first next
+  pub reads-second : S at second next
   pub step : J at first second next
   pub is-first : l ≡ before ++ first ∷ after
   pub is-second : m ≡ before ++ second ∷ after
 
 -- the same one before both
-one-later : {A : Type 0} {J : ℕ → A → A → ℕ → Type 0} {k : ℕ} {l m : List A} (a : A) → OneOther J k l m → OneOther J k (a ∷ l) (a ∷ m)
+one-later : {A : Type 0} {R S : ℕ → A → ℕ → Type 0} {J : ℕ → A → A → ℕ → Type 0} {k : ℕ} {l m : List A} (a : A) → OneOther R S J k l m → OneOther R S J k (a ∷ l) (a ∷ m)
 one-later {A} a i = record {
   before = a ∷ i .before;
   first = i .first;
@@ -32,12 +34,15 @@ one-later {A} a i = record {
   next = i .next;
   from = i .from;
   below = i .below;
+  reads-first = i .reads-first;
+  reads-second = i .reads-second;
   step = i .step;
   is-first = ap (λ (v : List A). a ∷ v) (i .is-first);
   is-second = ap (λ (v : List A). a ∷ v) (i .is-second);
 }
 
--- records that do not hold the place are the same, and one that does ends where the other does
+-- what is to be shown of the records of two chains: those in whose words k does not stand are the same, and one in whose words it does ends where the
+-- other does
 pub record Steps {A : Type 0} (R S : ℕ → A → ℕ → Type 0) (Over Under : ℕ → Type 0) (J : ℕ → A → A → ℕ → Type 0) (k : ℕ) : Type 0 where
   pub onward : (at : ℕ) (a : A) (next : ℕ) → R at a next → at < next
   pub same : (at : ℕ) (a b : A) (next next′ : ℕ) → (at ≤ k → next ≤ k) → R at a next → S at b next′ → (a ≡ b) × (next ≡ next′)
@@ -46,7 +51,7 @@ pub record Steps {A : Type 0} (R S : ℕ → A → ℕ → Type 0) (Over Under :
   pub second-ends : (at : ℕ) (a : A) (next : ℕ) → Under at → R at a next → ⊥
 
 module _ {A : Type 0} {R S : ℕ → A → ℕ → Type 0} {Over Under : ℕ → Type 0} {J : ℕ → A → A → ℕ → Type 0} {k : ℕ} (t : Steps R S Over Under J k) where
-  -- behind the place
+  -- from behind k on all records are the same
   pub chains-same : {at stop stop′ : ℕ} {l m : List A} → k < at → Chain R at l stop → Over stop → Chain S at m stop′ → Under stop′ → (l ≡ m) × (stop ≡ stop′)
   chains-same h Chain.done o Chain.done u = (refl, refl)
   chains-same h (Chain.done {at}) o (Chain.then {next = next} {a = b} s d) u = absurd (t .first-ends at b next o s)
@@ -57,19 +62,22 @@ module _ {A : Type 0} {R S : ℕ → A → ℕ → Type 0} {Over Under : ℕ →
       let q = chains-same (omega (arith, t .onward at a next r)) c o d′ u in
       (rw (e .0, q .0), q .1)
 
-  -- around it
-  pub chains-other : {at stop stop′ : ℕ} {l m : List A} → at ≤ k → k < stop → Chain R at l stop → Over stop → Chain S at m stop′ → Under stop′ → (stop ≡ stop′) × OneOther J k l m
+  -- from k or before it on all but one are
+  pub chains-other : {at stop stop′ : ℕ} {l m : List A} → at ≤ k → k < stop → Chain R at l stop → Over stop → Chain S at m stop′ → Under stop′ → (stop ≡ stop′) × OneOther R S J k l m
   chains-other h b Chain.done o d u = let z : ⊥ = omega arith in absurd z
   chains-other h b (Chain.then {at} {next} {a = a} r c) o Chain.done u = absurd (t .second-ends at a next u r)
   chains-other {stop = stop} {stop′ = stop′} h below (Chain.then {at} {next} {a = a} {l} r c) o (Chain.then {next = next′} {a = b} {l = m} s d) u =
       go (decLt k next) (λ g d′. chains-other g below c o d′ u)
     where
-      go : Dec (k < next) → (next ≤ k → Chain S next m stop′ → (stop ≡ stop′) × OneOther J k l m) → (stop ≡ stop′) × OneOther J k (a ∷ l) (b ∷ m)
+      go : Dec (k < next) → (next ≤ k → Chain S next m stop′ → (stop ≡ stop′) × OneOther R S J k l m) → (stop ≡ stop′) × OneOther R S J k (a ∷ l) (b ∷ m)
       go (yes p) f =
           let e = t .step at a b next next′ h p r s in
           let d′ : Chain S next m stop′ = rw (e .0) d in
           let q = chains-same p c o d′ u in
-          (q .1, record { before = []; first = a; second = b; after = l; at = at; next = next; from = h; below = p; step = e .1; is-first = refl; is-second = rw (q .0) })
+          let s′ : S at b next = rw (e .0) s in (
+            q .1,
+            record { before = []; first = a; second = b; after = l; at = at; next = next; from = h; below = p; reads-first = r; reads-second = s′; step = e .1; is-first = refl; is-second = rw (q .0) },
+          )
       go (no p) f =
           let e = t .same at a b next next′ (λ _. omega arith) r s in
           let d′ : Chain S next m stop′ = rw (e .1) d in

@@ -1,22 +1,23 @@
 -- A book written anew reads back: a front of head and protections, the words of items that were read from any books, and an end word with the
 -- right count are a book that is cut into just these items. Assumes nothing.
-use Prim.Native.Nat.{ℕ, _+_, _≤_}
+use Prim.Native.Nat.{ℕ, _+_, _^_, _≤_}
 use mathlib.Core.Path.{_≡_, refl, sym, _∙_, ap}
 use mathlib.Core.Bool.{false}
-use mathlib.Core.List.{List, [], _∷_, _++_, append-assoc}
+use mathlib.Core.List.{List, [], _∷_, _++_, append-assoc, Forall₂, Forall₂·nil, Forall₂·cons}
 use native.Mathlib.Omega.{arith}
 use native.Mathlib.Nat.{add-zero, add-assoc}
 use lib.ListN.{length, drop, length-append}
 use lib.Seq.{getD-append-add, getD-append-seam, take-length, take-append-seam, drop-append-seam, drop-drop}
 use Rattle.rules.specs.Word.{word, kindOf, payloadOf}
 use Rattle.rules.specs.Book.{Head, Protection, Item, Placed}
-use Rattle.rules.specs.Read.{firstRecord, headOf, protectionsOf, itemsOf}
+use Rattle.rules.specs.Read.{firstRecord, headFaulty, dateFaulty, headOf, protectionsOf, itemsOf}
+use Rattle.laws.specs.ReadAs.{ReadAs}
 use Rattle.cuts.proofs.Chains.{Chain, sureRun}
 use Rattle.cuts.proofs.Records.{NoneOf, goesOn, ItemRead, item-onward, ProtectionRead}
 use Rattle.cuts.proofs.Cutting.{ItemHere, EndHere, itemsBegin, item-kind, test-item, cut-protections, cut-items}
 use Rattle.cuts.proofs.Moved.{Stretch}
 use Rattle.cuts.proofs.Local.{stay, first-words, OneItem, item-before}
-use Rattle.cuts.proofs.Changed.{head-same, protections-same}
+use Rattle.cuts.proofs.Changed.{head-same, head-fault-same, date-fault-same, protections-same}
 
 -- ---- what is written
 
@@ -36,9 +37,8 @@ pub record Front (front : List ℕ) (ps : List Protection) : Type 0 where
   pub protections : Chain (ProtectionRead front) firstRecord ps (length front)
 
 -- each list of words reads as the item beside it
-pub data Reading : List (List ℕ) → List Item → Type 0 where
-  none : Reading [] []
-  more : {w : List ℕ} {i : Item} {ws : List (List ℕ)} {l : List Item} → OneItem w i → Reading ws l → Reading (w ∷ ws) (i ∷ l)
+abbrev pub Reading : List (List ℕ) → List Item → Type 0
+Reading = Forall₂ OneItem
 
 -- an end word that counts the words before it
 pub record EndWord (end count : ℕ) : Type 0 where
@@ -61,8 +61,8 @@ placedFrom at (w ∷ ws) (i ∷ l) = record { begin = at; end = at + length w; i
 
 -- what follows an item begins with an item or the end, so it does not go on with it
 follows : {ws : List (List ℕ)} {l : List Item} → Reading ws l → (end : ℕ) → kindOf end ≡ 15 → NoneOf goesOn (joined ws ++ (end ∷ [])) 0
-follows none end e = rw e
-follows (more {w} {i} {ws} o r) end e = go w o
+follows Forall₂·nil end e = rw e
+follows (Forall₂·cons {a = w} {b = i} {l₁ = ws} o r) end e = go w o
   where
     go : (v : List ℕ) → OneItem v i → NoneOf goesOn ((v ++ joined ws) ++ (end ∷ [])) 0
     go [] q = let z : ⊥ = omega (arith, item-onward [] i 0 q .0) in absurd z
@@ -74,8 +74,8 @@ behind-words ws w rest at e = sym (drop-drop (length w) at ws) ∙ ap (drop (len
 
 joined-chain : (ws : List ℕ) (end : ℕ) → kindOf end ≡ 15 → {l : List (List ℕ)} {m : List Item} → Reading l m → (at : ℕ) → drop at ws ≡ joined l ++ (end ∷ [])
     → Chain (ItemHere ws) at (placedFrom at l m) (at + length (joined l))
-joined-chain ws end k none at e = rw (add-zero at) Chain.done
-joined-chain ws end k (more {w} {i} {ws = l} {l = m} o r) at e =
+joined-chain ws end k Forall₂·nil at e = rw (add-zero at) Chain.done
+joined-chain ws end k (Forall₂·cons {a = w} {b = i} {l₁ = l} {l₂ = m} o r) at e =
     let s : drop at ws ≡ w ++ (joined l ++ (end ∷ [])) = e ∙ append-assoc w (joined l) (end ∷ []) in
     let one : ItemRead (drop at ws) i (length w) = rw s (item-before i w (joined l ++ (end ∷ [])) o (follows r end k)) in
     rw (length-append w (joined l), ← add-assoc at (length w) (length (joined l)))
@@ -96,7 +96,11 @@ module _ {front : List ℕ} {ps : List Protection} {items : List (List ℕ)} {is
   chain-here = joined-chain (bookOf front items end) end (b .end-good .of) (b .reading) (length front) (drop-append-seam front (joined items ++ (end ∷ [])))
 
   end-here : EndHere (bookOf front items end) (length front + length (joined items))
-  end-here = record { of = rw there (b .end-good .of); counts = rw there (b .end-good .counts); last = omega (arith, length-append front (joined items ++ (end ∷ [])), length-append (joined items) (end ∷ [])) }
+  end-here = record {
+    of = rw there (b .end-good .of);
+    counts = rw there (b .end-good .counts);
+    last = omega (arith, length-append front (joined items ++ (end ∷ [])), length-append (joined items) (end ∷ []));
+  }
     where
       there : word (bookOf front items end) (length front + length (joined items)) ≡ end
       there = getD-append-add front (joined items ++ (end ∷ [])) (length (joined items)) 0 ∙ getD-append-seam (joined items) end [] 0
@@ -113,3 +117,16 @@ module _ {front : List ℕ} {ps : List Protection} {items : List (List ℕ)} {is
 
   pub written-items : itemsOf (bookOf front items end) ≡ sureRun (placedFrom (length front) items is) (length front + length (joined items))
   written-items = cut-items (bookOf front items end) ps (length front) _ _ many-here protections-here chain-here end-here
+
+  -- so with rows and entries enough it is read as these, if its front is good and it is not too long
+  pub written-read : (rows entries : ℕ) → 22 ≤ rows → length (bookOf front items end) ≤ 2 ^ 20 → headFaulty front ≡ false → dateFaulty front ≡ false → headOf front .protections ≤ entries
+      → ReadAs (bookOf front items end) rows entries (placedFrom (length front) items is)
+  written-read rows entries enough short head date room = record {
+    rows-enough = enough;
+    short = short;
+    head = sym (head-fault-same front _ (length front) front-same three) ∙ head;
+    date = sym (date-fault-same front _ (length front) front-same three) ∙ date;
+    room = rw (← written-head) room;
+    number = rw written-items;
+    read = rw written-items;
+  }

@@ -11,7 +11,7 @@ pub record Shape (a b : ℕ) : Type 0 where
   pub kind : kindOf a ≡ kindOf b
   pub amounts : amountsIn a ≡ amountsIn b
 
--- two books as long as each other, each word related to the word at its place
+-- two books as long as each other, each word related to the word at its place; past the end too, where both read as 0
 pub record Wordwise (W : ℕ → ℕ → Type 0) (xs ys : List ℕ) : Type 0 where
   pub long : length xs ≡ length ys
   pub at : (i : ℕ) → W (word xs i) (word ys i)
