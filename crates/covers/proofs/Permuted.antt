@@ -1,7 +1,7 @@
--- Laws of lists that are permuted up to a relation: what does not hang on the order, and how such lists are made. Assumes nothing.
+-- Laws of lists that are permuted up to a relation: what does not hang on the order, and which lists are permuted as well. Assumes nothing.
 use Prim.Native.Nat.{ℕ}
 use mathlib.Core.Path.{_≡_, refl, _∙_}
-use mathlib.Core.List.{List, [], _∷_, _++_, map}
+use mathlib.Core.List.{List, map}
 use native.Mathlib.Omega.{arith}
 use Rattle.rules.specs.Book.{total}
 use Rattle.rules.proofs.Lists.{Every}
@@ -46,13 +46,3 @@ module _ {A : Type 0} {Rel : A → A → Type 0} where
   permuted-wider h (more {a} {b} r p) = more (h a b r) (permuted-wider h p)
   permuted-wider h swap = swap
   permuted-wider h (trans p q) = trans (permuted-wider h p) (permuted-wider h q)
-
-  module _ (same : (a : A) → Rel a a) where
-    pub permuted-refl : (xs : List A) → Permuted Rel xs xs
-    permuted-refl [] = none
-    permuted-refl (x ∷ xs) = more (same x) (permuted-refl xs)
-
-    -- the first goes in anywhere
-    pub permuted-insert : (a : A) (xs ys : List A) → Permuted Rel (a ∷ xs ++ ys) (xs ++ a ∷ ys)
-    permuted-insert a [] ys = permuted-refl (a ∷ ys)
-    permuted-insert a (x ∷ xs) ys = trans swap (more (same x) (permuted-insert a xs ys))
