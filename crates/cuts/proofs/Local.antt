@@ -53,15 +53,15 @@ here-goes-not ws at p next h = rw (here-kind ws at p next h) (test-item goesOn f
 pub end-goes-not : (ws : List ℕ) (at : ℕ) → EndHere ws at → NoneOf goesOn ws at
 end-goes-not ws at e = rw (e .of)
 
--- so of covers, members and financing trades alike
+-- what does not stand behind a stretch in the one does not in the other, be it a cover, a member or a financing trade
 abbrev pub FollowsAll : (ℕ → ℕ) → List ℕ → List ℕ → ℕ → Type 0
 FollowsAll move xs ys to = (test : ℕ → Bool) → Inner test → Follows test move xs ys to
 
--- where both have a word of one kind there,
+-- so it is where both have a word of one kind there,
 pub follows-kind : (move : ℕ → ℕ) (xs ys : List ℕ) (to : ℕ) → kindOf (word xs to) ≡ kindOf (word ys (move to)) → FollowsAll move xs ys to
 follows-kind move xs ys to e test t f = rw (← e) f
 
--- and where nothing that goes on stands there in the second
+-- and where nothing that goes on with an item stands there in the second
 pub follows-none : (move : ℕ → ℕ) (xs ys : List ℕ) (to : ℕ) → NoneOf goesOn ys (move to) → FollowsAll move xs ys to
 follows-none move xs ys to e test t f = go (kindOf (word ys (move to))) e t
   where

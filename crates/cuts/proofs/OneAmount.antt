@@ -24,7 +24,7 @@ use Rattle.cuts.proofs.Local.{stay, member-stays, follows-kind}
 use Rattle.cuts.proofs.Changed.{head-same, here-moved}
 use Rattle.cuts.proofs.Steps.{OneOther, Steps, chains-same, chains-other}
 
--- so both have one shape
+-- two books that are equal but for one amount have one shape
 pub amount-shape : {xs ys : List ℕ} {k : ℕ} → OneAmount xs ys k → Wordwise Shape xs ys
 amount-shape {xs} {ys} {k} o = record { long = o .long; at = λ i. go i (ℕ-discrete i k) }
   where
@@ -32,7 +32,7 @@ amount-shape {xs} {ys} {k} o = record { long = o .long; at = λ i. go i (ℕ-dis
     go i (yes p) = rw p (kind-shape (word xs k) (word ys k) (o .first ∙ sym (o .second)) (λ e. omega (arith, o .first)))
     go i (no p) = rw (o .others i p) (shape-itself (word ys i))
 
--- and so it is from any place before the word on
+-- from any place before that word on they are equal but for one amount again
 one-behind : {xs ys : List ℕ} {k : ℕ} (at : ℕ) → at ≤ k → OneAmount xs ys k → OneAmount (drop at xs) (drop at ys) (k - at)
 one-behind {xs} {ys} {k} at h o =
     let e : at + (k - at) ≡ k = omega arith in
@@ -44,7 +44,7 @@ one-behind {xs} {ys} {k} at h o =
       others = λ i n. getD-drop at xs i 0 ∙ o .others (at + i) (λ z. n (omega arith)) ∙ sym (getD-drop at ys i 0);
     }
 
--- ---- what two records are that hold the word, by their own words in each book
+-- ---- what two records are in which the word stands, by their own words in each book
 
 module _ (xs ys : List ℕ) (k : ℕ) where
   pub data CoverOther (at : ℕ) : Cover → Cover → ℕ → Type 0 where
@@ -74,7 +74,7 @@ pub data PlacedOther (xs ys : List ℕ) (k at : ℕ) : Placed → Placed → ℕ
   here : {i j : Item} {n : ℕ} → ItemOther (drop at xs) (drop at ys) (k - at) i j n
       → PlacedOther xs ys k at (record { begin = at; end = at + n; item = i }) (record { begin = at; end = at + n; item = j }) (at + n)
 
--- ---- they are so
+-- ---- so they are read
 
 -- at one place one thing is read
 once : {A : Type 0} {t : Turn A} {a b : A} {next next′ : ℕ} → t ≡ some a 0 next → t ≡ some b 0 next′ → (a ≡ b) × (next ≡ next′)
