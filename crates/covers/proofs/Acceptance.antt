@@ -17,6 +17,7 @@ accepted-iff ws rows entries items left =
       λ p. is-accepted ws rows entries items left (record { reading = p .0; fits = c .1 (p .1) }),
     )
 
+-- neither acceptance nor the register hangs on the order
 pub accepted-any-order : AcceptedInAnyOrder
 accepted-any-order vs ws rows entries ps qs left b r s a =
     let o = items-any-order (boughtIn vs) ps qs left a in (

@@ -102,6 +102,7 @@ fit-covered entries items = (
   λ c. record { each = items-fit entries items .1 (c .each); enough = λ i h. omega (arith, of-book i items, c .enough i h) },
 )
 
+-- they settle exactly where they all fit, and leave each entry less its sum
 pub covers-iff : CoversBySums
 covers-iff entries items left =
     Iff·trans (settle-iff entries (drawsOver items) left)

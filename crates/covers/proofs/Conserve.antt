@@ -29,6 +29,7 @@ entry-conserved bought items c p₀ i h =
     rw (less-at (map entryOf bought) (λ k. sumOver (drawnOf k) items) i, here)
     (record { entity = refl; rank = refl; days = refl; amount = omega (arith, enough) })
 
+-- so in an accepted book
 pub conservation : Conservation
 conservation ws rows entries items left e =
     let a = accepted-iff ws rows entries items left .0 e in

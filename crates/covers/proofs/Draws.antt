@@ -113,6 +113,7 @@ module _ (entries : List Entry) (d : Draw) (ds : List Draw) where
 
 -- ---- THE LAW OF DRAWS
 
+-- they settle exactly where they all fit, and leave each entry less its sum
 pub settle-iff : SettlesBySums
 unfolding settle
 settle-iff entries [] left =

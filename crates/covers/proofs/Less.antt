@@ -10,6 +10,7 @@ use Rattle.rules.specs.declared.Entry.{Entry}
 use Rattle.rules.specs.Register.{blank, drawnFrom, drawn}
 use Rattle.covers.specs.Claims.{drawnAt, less}
 
+-- as many entries
 pub less-length : (es : List Entry) (f : ℕ → ℕ) → length (less es f) ≡ length es
 less-length [] f = refl
 less-length (e ∷ es) f = ap suc (less-length es (λ i. f (suc i)))
@@ -20,6 +21,7 @@ less-at [] f i = let q : 0 - f i ≡ 0 = omega arith in rw q refl
 less-at (e ∷ es) f zero = refl
 less-at (e ∷ es) f (suc i) = less-at es (λ k. f (suc k)) i
 
+-- by amounts that are the same at every place
 pub less-same : (es : List Entry) (f g : ℕ → ℕ) → ((i : ℕ) → f i ≡ g i) → less es f ≡ less es g
 less-same [] f g h = refl
 less-same (e ∷ es) f g h = rw (h 0, less-same es (λ i. f (suc i)) (λ i. g (suc i)) (λ i. h (suc i)))
@@ -27,6 +29,7 @@ less-same (e ∷ es) f g h = rw (h 0, less-same es (λ i. f (suc i)) (λ i. g (s
 drawn-nothing : (e : Entry) (n : ℕ) → n ≡ 0 → drawnFrom e n ≡ e
 drawn-nothing e n h = let q : e .left - n ≡ e .left = omega arith in rw q refl
 
+-- by nothing
 pub less-none : (es : List Entry) (f : ℕ → ℕ) → ((i : ℕ) → f i ≡ 0) → less es f ≡ es
 less-none [] f h = refl
 less-none (e ∷ es) f h = rw (drawn-nothing e (f 0) (h 0), less-none es (λ i. f (suc i)) (λ i. h (suc i)))
@@ -34,6 +37,7 @@ less-none (e ∷ es) f h = rw (drawn-nothing e (f 0) (h 0), less-none es (λ i. 
 drawn-twice : (e : Entry) (m n : ℕ) → drawnFrom (drawnFrom e m) n ≡ drawnFrom e (m + n)
 drawn-twice e m n = let q : e .left - m - n ≡ e .left - (m + n) = omega arith in rw q refl
 
+-- by some amounts and then by others
 pub less-twice : (es : List Entry) (f g : ℕ → ℕ) → less (less es f) g ≡ less es (λ i. f i + g i)
 less-twice [] f g = refl
 less-twice (e ∷ es) f g = rw (drawn-twice e (f 0) (g 0), less-twice es (λ i. f (suc i)) (λ i. g (suc i)))

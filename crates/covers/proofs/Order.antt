@@ -44,6 +44,7 @@ draws-settle entries ds es left p z =
     sums : (i : ℕ) → drawnOver ds i ≡ drawnOver es i
     sums i = permuted-total (drawnAt i) (λ d e a. rw (a .protection, a .amount)) p
 
+-- in any order
 pub draws-any-order : DrawsInAnyOrder
 draws-any-order entries ds es left p = (draws-settle entries ds es left p, draws-settle entries es ds left (permuted-sym draw-sym p))
 
@@ -118,6 +119,7 @@ items-permuted ps qs p = Permuted.trans (bare ps) (Permuted.trans (permuted-map 
     bare [] = Permuted.none
     bare (r ∷ rs) = Permuted.more refl (bare rs)
 
+-- the same items in another order are alike in another order
 pub same-alike : {ps qs : List Placed} → Permuted SameItem ps qs → Permuted PlacedAlike ps qs
 same-alike s = permuted-wider (λ p q e. rw (← e) ItemAlike.same) s
 

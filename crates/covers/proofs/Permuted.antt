@@ -26,6 +26,7 @@ module _ {A : Type 0} {Rel : A → A → Type 0} where
 
   -- ---- permuted from permuted
 
+  -- the other way round
   pub permuted-sym : ((a b : A) → Rel a b → Rel b a) → {xs ys : List A} → Permuted Rel xs ys → Permuted Rel ys xs
   permuted-sym h none = none
   permuted-sym h (more {a} {b} r p) = more (h a b r) (permuted-sym h p)

@@ -42,6 +42,7 @@ module _ (test : ℕ → Bool) (o : Outer test) where
   member-none at (written w) = rw (o .2) (along-none coverLength (coverPlaces test) (λ at c. rw (o .3)) (at + 6) (w .covers))
   member-none at (basket b) = rw (o .5)
 
+  -- so none of its places is inside an item
   pub inner-none : (at : ℕ) (i : Item) → innerPlaces test at i ≡ []
   inner-none at (asset a) = refl
   inner-none at (derivatives s) = along-none memberLength (memberPlaces test) member-none (at + 4) (s .members)
@@ -65,9 +66,11 @@ module _ (test : ℕ → Bool) (o : Outer test) where
 
 -- ---- all items and the end
 
+-- the kinds of the first words of items, and that of the end word
 abbrev pub opens : ℕ → Bool
 opens kind = isItem kind || eqb kind 15
 
+-- none of these is inside an item
 pub outer : Outer opens
 outer = (refl, refl, refl, refl, refl, refl)
 
@@ -76,6 +79,7 @@ unfolding picked
 opens-all [] = refl
 opens-all (p ∷ l) = rw (opens-all l, test-item opens true refl refl refl refl (p .item))
 
+-- THE ITEMS: behind the protections the words of these kinds are just the first words of the items, and the end
 pub items-by-kind : (ws : List ℕ) → itemsOf ws .number ≡ 0
     → scan opens ws (itemsBegin ws) (length ws - itemsBegin ws) ≡ begins (itemsOf ws .records) ++ (itemsOf ws .place ∷ [])
 items-by-kind ws e = picked-by-kind opens outer ws e ∙ rw (opens-all (itemsOf ws .records))
@@ -95,8 +99,10 @@ items-same-places {xs} {ys} l e f =
 
 -- ---- derivative sets and financing sets
 
+-- their kinds
 abbrev pub isSet : ℕ → Bool
 isSet kind = eqb kind 4 || eqb kind 8
 
+-- THE SETS: behind the protections the words of these kinds are just the first words of the sets, in their order
 pub sets-by-kind : (ws : List ℕ) → itemsOf ws .number ≡ 0 → scan isSet ws (itemsBegin ws) (length ws - itemsBegin ws) ≡ begins (picked isSet (itemsOf ws .records))
 sets-by-kind ws e = picked-by-kind isSet (refl, refl, refl, refl, refl, refl) ws e ∙ append-nil (begins (picked isSet (itemsOf ws .records)))

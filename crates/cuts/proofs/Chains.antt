@@ -40,6 +40,7 @@ module _ {A : Type 0} where
   sureRun l stop = record { records = l; number = 0; place = stop }
 
   module _ {R : ℕ → A → ℕ → Type 0} where
+    -- one chain behind another
     pub chain-append : {at mid stop : ℕ} {l m : List A} → Chain R at l mid → Chain R mid m stop → Chain R at (l ++ m) stop
     chain-append done d = d
     chain-append (then r c) d = then r (chain-append c d)
@@ -61,6 +62,7 @@ module _ {A : Type 0} where
 
   -- a turn that is a record without a fault
   module _ {n at : ℕ} {R : A → ℕ → Type 0} {Over : Type 0} where
+    -- it is read so, goes on and stays within the words
     pub view-one : {t : Turn A} → View n at R Over t → (a : A) (next : ℕ) → t ≡ some a 0 next → R a next × (at < next) × (next ≤ n)
     view-one (View.ends o) a next e = let z : _≡_ {A = ℕ} 0 1 = cc in absurd (omega arith)
     view-one View.faulty a next e = let z : _≡_ {A = ℕ} 0 1 = cc in absurd (omega arith)
@@ -92,9 +94,11 @@ module _ {A : Type 0} where
             let q = r next f in
             record { chain = then w (q .chain); last = λ i m. q .last (omega arith) (omega arith); within = λ i. let p = q .within h in (omega arith, p .1) }
 
+    -- however many records it may read
     pub run-chain : (k at : ℕ) → runFrom turn k at .number ≡ 0 → Chain R at (runFrom turn k at .records) (runFrom turn k at .place)
     run-chain k at e = ran k at e .chain
 
+    -- and with room for more than there are words, it has them all
     pub run-cut : (at : ℕ) → runFrom turn (suc n) at .number ≡ 0 → Cut R Over at (runFrom turn (suc n) at .records) (runFrom turn (suc n) at .place)
     run-cut at e = let r = ran (suc n) at e in record { chain = r .chain; last = r .last (omega arith) (omega arith) }
 

@@ -42,15 +42,18 @@ kindOfItem (derivatives s) = 4
 kindOfItem (financing s) = 8
 kindOfItem (offBalance o) = 10
 
+-- one of these
 abbrev pub isItem : ℕ → Bool
 isItem kind = eqb kind 2 || eqb kind 4 || eqb kind 8 || eqb kind 10
 
+-- the first word is of the kind that is read: in words of the item's own,
 pub item-kind : (ws : List ℕ) (i : Item) (n : ℕ) → ItemRead ws i n → kindOf (word ws 0) ≡ kindOfItem i
 item-kind ws i n (ItemRead.of-asset w) = w .of
 item-kind ws i n (ItemRead.of-derivatives w c) = w .of
 item-kind ws i n (ItemRead.of-financing w c) = w .of
 item-kind ws i n (ItemRead.of-off-balance w) = w .of
 
+-- and in the book
 pub here-kind : (ws : List ℕ) (at : ℕ) (p : Placed) (next : ℕ) → ItemHere ws at p next → kindOf (word ws at) ≡ kindOfItem (p .item)
 here-kind ws at p next (ItemHere.here {i} {n} r) = ap kindOf (sym (head-word ws at)) ∙ item-kind (drop at ws) i n r
 
@@ -103,6 +106,7 @@ module _ (ws : List ℕ) (at : ℕ) where
       (λ e. end-view (eqb-true _ 15 e))
       (λ _. placed-view (leb-false _ _ l) (itemOf (drop at ws)) (item-view (drop at ws)))))
 
+  -- an item that stands at a place is what is read there
   pub here-made : (p : Placed) (next : ℕ) → ItemHere ws at p next → itemTurn ws at ≡ some p 0 next
   here-made p next (ItemHere.here {i} {n} r) =
       let o = item-onward (drop at ws) i n r in
@@ -113,9 +117,11 @@ module _ (ws : List ℕ) (at : ℕ) where
   unfolding endFault cause
   end-made h = book-turn ∙ rw (lt-leb (length ws) at (omega (arith, h .last)), h .of, eq-eqb _ at (h .counts), eq-eqb _ _ (h .last))
 
+-- it says where it stands
 pub here-places : (ws : List ℕ) (at : ℕ) (p : Placed) (next : ℕ) → ItemHere ws at p next → (p .begin ≡ at) × (p .end ≡ next)
 here-places ws at p next (ItemHere.here r) = (refl, refl)
 
+-- it takes up at least a word, and its words are all there
 pub here-onward : (ws : List ℕ) (at : ℕ) (p : Placed) (next : ℕ) → ItemHere ws at p next → (at < next) × (next ≤ length ws)
 here-onward ws = seen-onward (length ws) (itemTurn ws) (book-view ws) (here-made ws)
 

@@ -93,9 +93,11 @@ module _ (ws : List ℕ) (at : ℕ) (p : Placed) (next : ℕ) (h : ItemHere ws a
         let long : placedLength p ≡ suc (next - suc at) = omega (arith, here-length ws at p next h) in
         append-cancel-left (marked (test (kindOfItem (p .item))) at) _ _ (rw (long, here-kind ws at p next h) at (here-scan test none ws at p next h))
 
+    -- a word inside that passes is where such a record stands,
     pub inner-place : (i : ℕ) → at < i → i < next → test (kindOf (word ws i)) ≡ true → List·Memᴰ i (innerPlaces test at (p .item))
     inner-place i l m t = rw inner-scan at (in-scan test ws (next - suc at) (suc at) i l (omega arith) t)
 
+    -- and back
     pub place-inner : (i : ℕ) → List·Memᴰ i (innerPlaces test at (p .item)) → (at < i) × (i < next) × (test (kindOf (word ws i)) ≡ true)
     place-inner i m = let q = scan-in test ws (next - suc at) (suc at) i (rw inner-scan m) in (q .0, omega arith, q .2)
 

@@ -52,6 +52,7 @@ head-kinds ws e =
 
 -- ---- a record that is whole: its amounts, as many as its kind asks for, are there, and none of its own causes holds
 
+-- how many amounts a record of some kind at a place asks for
 abbrev pub amountsAt : ℕ → List ℕ → ℕ → ℕ
 amountsAt kind ws at = amountsOfKind kind (word ws at)
 
@@ -73,9 +74,11 @@ record-made kind fault ws at next w = rw (amounts-at (word ws at) (w .of), w .am
 -- ---- what a turn is
 
 module _ {A : Type 0} (ws : List ℕ) (at : ℕ) (R : A → ℕ → Type 0) (Over : Type 0) where
+  -- what a turn at this place is
   abbrev pub Seen : Turn A → Type 0
   Seen = View (length ws) at R Over
 
+  -- either of two turns
   pub seen-if : (b : Bool) (t u : Turn A) → (b ≡ true → Seen t) → (b ≡ false → Seen u) → Seen (cond b t u)
   seen-if true t u g h = g refl
   seen-if false t u g h = h refl
@@ -104,6 +107,7 @@ module _ {A B : Type 0} {In : ℕ → B → ℕ → Type 0} {Out : ℕ → Type 
   abbrev pub behind : ℕ → Turn A
   behind next = some (wrap (runFrom turn (suc (length ws)) next .records)) (runFrom turn (suc (length ws)) next .number) (runFrom turn (suc (length ws)) next .place)
 
+  -- where it is whole and the run behind it is cut, it is read so
   pub seen-set : (at : ℕ) (R : A → ℕ → Type 0) (Over : Type 0) (kind fault : ℕ) → kindOf (word ws at) ≡ suc kind
       → (Whole (suc kind) fault ws at → (l : List B) (stop : ℕ) → Cut In Out (at + suc (amountsAt (suc kind) ws at)) l stop → R (wrap l) stop)
       → Seen ws at R Over (recordThen ws at fault behind)

@@ -34,6 +34,7 @@ first-words n xs ys h e = record {
 pub map-same : {A : Type 0} (f : A → A) → ((a : A) → f a ≡ a) → (l : List A) → map f l ≡ l
 map-same f h l = map-congr-left {l = l} (λ a _. h a) ∙ map-id l
 
+-- a member that is moved nowhere
 pub member-stays : (m : Member) → movedMember stay m ≡ m
 member-stays (trade t) = refl
 member-stays (written w) = rw (map-same (movedCover stay) (λ c. refl) (w .covers))
@@ -50,6 +51,7 @@ pub data Inner : (ℕ → Bool) → Type 0 where
 pub here-goes-not : (ws : List ℕ) (at : ℕ) (p : Placed) (next : ℕ) → ItemHere ws at p next → NoneOf goesOn ws at
 here-goes-not ws at p next h = rw (here-kind ws at p next h) (test-item goesOn false refl refl refl refl (p .item))
 
+-- nor does the end
 pub end-goes-not : (ws : List ℕ) (at : ℕ) → EndHere ws at → NoneOf goesOn ws at
 end-goes-not ws at e = rw (e .of)
 
@@ -137,6 +139,7 @@ item-local n xs ys i r t e = item-kept n xs ys (first-words n xs ys (item-onward
 
 -- ---- the words that read as one item and no more
 
+-- all of them, and nothing is left
 abbrev pub OneItem : List ℕ → Item → Type 0
 OneItem ws i = ItemRead ws i (length ws)
 

@@ -36,9 +36,11 @@ coveredBy covers w = record {
 }
 
 module _ (move : ℕ → ℕ) where
+  -- only a cover knows its place
   abbrev pub movedCover : Cover → Cover
   movedCover c = record { at = move (c .at); protection = c .protection; amount = c .amount }
 
+  -- so of a member only its covers move
   abbrev pub movedMember : Member → Member
   movedMember (trade t) = trade t
   movedMember (written w) = written (coveredBy (map movedCover (w .covers)) w)
@@ -56,9 +58,11 @@ abbrev pub Follows : (ℕ → Bool) → (ℕ → ℕ) → List ℕ → List ℕ 
 Follows test move xs ys to = NoneOf test xs to → NoneOf test ys (move to)
 
 module _ {move : ℕ → ℕ} {xs ys : List ℕ} {from to : ℕ} (s : Stretch move xs ys from to) where
+  -- the word so many places on
   pub word-on : (at k : ℕ) → from ≤ at → at + k < to → word xs (at + k) ≡ word ys (move at + k)
   word-on at k h l = s .words (at + k) (omega arith) l ∙ ap (word ys) (s .even at k h)
 
+  -- the other has words enough
   pub room-on : (at k : ℕ) → from ≤ at → at + k ≤ to → move at + k ≤ length ys
   room-on at k h l =
       let a : at + (to - at) ≡ to = omega arith in
@@ -79,6 +83,7 @@ module _ {move : ℕ → ℕ} {xs ys : List ℕ} {from to : ℕ} (s : Stretch mo
         fine = sym e ∙ w .fine;
       }
 
+  -- what does not stand in the stretch in the one does not in the other, nor right behind it
   pub none-moved : (test : ℕ → Bool) (at : ℕ) → from ≤ at → at ≤ to → Follows test move xs ys to → NoneOf test xs at → NoneOf test ys (move at)
   none-moved test at h l f e = go (decLt at to)
     where
@@ -96,6 +101,7 @@ module _ {move : ℕ → ℕ} {xs ys : List ℕ} {from to : ℕ} (s : Stretch mo
 
   -- ---- each kind of record
 
+  -- a protection
   pub protection-moved : (at : ℕ) (p : Protection) (next : ℕ) → from ≤ at → next ≤ to → ProtectionRead xs at p next → ProtectionRead ys (move at) p (move next)
   unfolding protectionAt
   protection-moved at p next h l (ProtectionRead.one w) =
@@ -106,6 +112,7 @@ module _ {move : ℕ → ℕ} {xs ys : List ℕ} {from to : ℕ} (s : Stretch mo
       let k = whole-moved 3 (protectionFaultAt xs at) (protectionFaultAt ys (move at)) at h (omega arith) (rw (x, a, b, c)) w in
       rw (x, a, b, c, s .even at 4 h) (ProtectionRead.one k)
 
+  -- A COVER, wherever it stands
   pub cover-moved : (at : ℕ) (c : Cover) (next : ℕ) → from ≤ at → next ≤ to → CoverRead xs at c next → CoverRead ys (move at) (movedCover move c) (move next)
   unfolding coverAt
   cover-moved at c next h l (CoverRead.one w) =
@@ -127,6 +134,7 @@ module _ {move : ℕ → ℕ} {xs ys : List ℕ} {from to : ℕ} (s : Stretch mo
       (stretch-same (namesIn (word xs at)) xs ys (at + 3) (move at + 3) (omega (arith, s .within)) (omega (arith, room-on at (suc (namesIn (word xs at) + 2)) h l))
       (λ k m. ap (word xs) (add-assoc at 3 k) ∙ word-on at (3 + k) h (omega arith) ∙ ap (word ys) (sym (add-assoc (move at) 3 k))))
 
+  -- A MEMBER, wherever it stands, if no cover comes to stand behind it that did not before
   pub member-moved : Follows isCover move xs ys to → (at : ℕ) (m : Member) (next : ℕ) → from ≤ at → next ≤ to → MemberRead xs at m next → MemberRead ys (move at) (movedMember move m) (move next)
   unfolding tradeAt writtenAt basketAt
   member-moved f at m next h l (MemberRead.of-trade w) =

@@ -26,6 +26,7 @@ frontOf ws = take (itemsBegin ws) ws
 abbrev pub wordsOf : List ℕ → Placed → List ℕ
 wordsOf ws p = take (p .end - p .begin) (drop (p .begin) ws)
 
+-- and the item without its place
 abbrev pub itemIn : Placed → Item
 itemIn p = p .item
 
@@ -54,6 +55,7 @@ chain-parts ws (Chain.then {at} {next} {stop} {a = p} {l} r c) =
 abbrev pub partsOf : List ℕ → List (List ℕ)
 partsOf ws = map (wordsOf ws) (itemsOf ws .records)
 
+-- and its end word
 abbrev pub endOf : List ℕ → ℕ
 endOf ws = word ws (itemsOf ws .place)
 
@@ -126,9 +128,11 @@ module _ {front : List ℕ} {ps : List Protection} {items : List (List ℕ)} {is
 -- TWO BOOKS OF PARTS are equal just where the parts are
 module _ {front front′ : List ℕ} {ps ps′ : List Protection} {items items′ : List (List ℕ)} {is is′ : List Item} {end end′ : ℕ}
     (b : BookParts front ps items is end) (c : BookParts front′ ps′ items′ is′ end′) where
+  -- equal books have equal parts,
   pub same-parts : bookOf front items end ≡ bookOf front′ items′ end′ → (front ≡ front′) × (items ≡ items′)
   same-parts e = (sym (front-back b) ∙ ap frontOf e ∙ front-back c, sym (parts-back b) ∙ ap partsOf e ∙ parts-back c)
 
+  -- and books of equal parts are equal: the end word is told by the count
   pub same-book : front ≡ front′ → items ≡ items′ → bookOf front items end ≡ bookOf front′ items′ end′
   same-book f g =
       let n : end ≡ end′ = one-end end end′ (b .end-good .of ∙ sym (c .end-good .of)) (b .end-good .counts ∙ rw (f, g) (sym (c .end-good .counts))) in

@@ -19,14 +19,17 @@ use Rattle.cuts.proofs.Scan.{marked, scan, along, scan-add, whole-scan,
 -- ---- where records of passing kinds stand, if what is read begins at a place
 
 module _ (test : ℕ → Bool) where
+  -- a cover is a record of its own
   abbrev pub coverPlaces : ℕ → Cover → List ℕ
   coverPlaces at c = marked (test 7) at
 
+  -- a written credit has its covers behind it
   abbrev pub memberPlaces : ℕ → Member → List ℕ
   memberPlaces at (trade t) = marked (test 5) at
   memberPlaces at (written w) = marked (test 6) at ++ along coverLength coverPlaces (at + 6) (w .covers)
   memberPlaces at (basket b) = marked (test 11) at
 
+  -- so is a financing trade
   abbrev pub financingTradePlaces : ℕ → FinancingTrade → List ℕ
   financingTradePlaces at t = marked (test 9) at
 
@@ -37,12 +40,14 @@ module _ (test : ℕ → Bool) where
   innerPlaces at (financing s) = along financingTradeLength financingTradePlaces (at + 1) (s .trades)
   innerPlaces at (offBalance o) = []
 
+  -- with its first word
   abbrev pub itemPlaces : ℕ → Item → List ℕ
   itemPlaces at i = marked (test (kindOfItem i)) at ++ innerPlaces at i
 
   abbrev pub placedPlaces : ℕ → Placed → List ℕ
   placedPlaces at p = itemPlaces at (p .item)
 
+  -- a protection
   abbrev pub protectionPlaces : ℕ → Protection → List ℕ
   protectionPlaces at p = marked (test 3) at
 
@@ -132,6 +137,7 @@ unfolding scan
 scan-same test l zero at = refl
 scan-same test l (suc n) at = rw (l .at at .kind, scan-same test l n (suc at))
 
+-- for any test that no amount passes, so for every kind
 pub places-same : (test : ℕ → Bool) → test 0 ≡ false → {xs ys : List ℕ} → Wordwise Shape xs ys → itemsOf xs .number ≡ 0 → itemsOf ys .number ≡ 0
     → bookPlaces test xs ≡ bookPlaces test ys
 places-same test none {xs} {ys} l e f =

@@ -18,9 +18,11 @@ use Rattle.cuts.proofs.Grammar.{Whole, kind-there, stands-by-kind, reco
 
 -- ---- covers
 
+-- the kind that goes on with a run of covers
 abbrev pub isCover : ℕ → Bool
 isCover kind = eqb kind 7
 
+-- the causes of the record at a place
 abbrev pub coverFaultAt : List ℕ → ℕ → ℕ
 coverFaultAt ws at = coverFault (word ws at) (word ws (at + 1))
 
@@ -43,14 +45,17 @@ module _ (ws : List ℕ) (at : ℕ) where
       (λ e. seen-single ws at _ _ 6 _ _ (eqb-true _ 7 e) CoverRead.one)
       View.ends)
 
+  -- what stands there is what is read,
   pub cover-made : (c : Cover) (next : ℕ) → CoverRead ws at c next → coverTurn ws at ≡ some c 0 next
   cover-made c next (CoverRead.one w) = cover-turn ∙ rw (w .of) (record-made 7 (coverFaultAt ws at) ws at (some (coverAt ws at) 0) w)
 
+  -- and where none does, nothing more is
   pub cover-over : NoneOf isCover ws at → coverTurn ws at ≡ over
   cover-over e = cover-turn ∙ rw e
 
 -- ---- members of a derivative set
 
+-- the kinds that go on with a derivative set
 abbrev pub isMember : ℕ → Bool
 isMember kind = eqb kind 5 || eqb kind 6 || eqb kind 11
 
@@ -94,12 +99,14 @@ module _ (ws : List ℕ) (at : ℕ) where
       (λ e. seen-single ws at _ _ 10 _ _ (eqb-true _ 11 e) MemberRead.of-basket)
       (λ b. View.ends (rw (t, c, b))))))
 
+  -- what stands there is what is read,
   pub member-made : (m : Member) (next : ℕ) → MemberRead ws at m next → memberTurn ws at ≡ some m 0 next
   member-made m next (MemberRead.of-trade w) = member-turn ∙ rw (w .of) (record-made 5 (tradeFaultAt ws at) ws at (some (trade (tradeAt ws at)) 0) w)
   member-made m next (MemberRead.of-credit {covers} {stop} w c) =
       member-turn ∙ rw (w .of) (set-made ws (coverTurn ws) (cover-view ws) wrapCovers (cover-made ws) (cover-over ws) at 5 (writtenFaultAt ws at) covers stop w c)
   member-made m next (MemberRead.of-basket w) = member-turn ∙ rw (w .of) (record-made 11 (basketFaultAt ws at) ws at (some (basket (basketAt ws at)) 0) w)
 
+  -- and where none does, nothing more is
   pub member-over : NoneOf isMember ws at → memberTurn ws at ≡ over
   member-over e =
       let b = or-right (eqb (kindOf (word ws at)) 5 || eqb (kindOf (word ws at)) 6) _ e in
@@ -108,6 +115,7 @@ module _ (ws : List ℕ) (at : ℕ) where
 
 -- ---- trades of a financing set
 
+-- the kind that goes on with a financing set
 abbrev pub isFinancingTrade : ℕ → Bool
 isFinancingTrade kind = eqb kind 9
 
@@ -131,10 +139,12 @@ module _ (ws : List ℕ) (at : ℕ) where
       (λ e. seen-single ws at _ _ 8 _ _ (eqb-true _ 9 e) FinancingTradeRead.one)
       View.ends)
 
+  -- what stands there is what is read,
   pub financing-trade-made : (t : FinancingTrade) (next : ℕ) → FinancingTradeRead ws at t next → financingMemberTurn ws at ≡ some t 0 next
   financing-trade-made t next (FinancingTradeRead.one w) =
       financing-trade-turn ∙ rw (w .of) (record-made 9 (financingTradeFaultAt ws at) ws at (some (financingTradeAt ws at) 0) w)
 
+  -- and where none does, nothing more is
   pub financing-trade-over : NoneOf isFinancingTrade ws at → financingMemberTurn ws at ≡ over
   financing-trade-over e = financing-trade-turn ∙ rw e
 
@@ -197,6 +207,7 @@ module _ (ws : List ℕ) where
       (λ e. seen-single ws 0 _ _ 9 _ _ (eqb-true _ 10 e) ItemRead.of-off-balance)
       (λ _. View.faulty)))))
 
+  -- an item that stands there is what is read
   pub item-made : (i : Item) (n : ℕ) → ItemRead ws i n → itemOf ws ≡ some i 0 n
   item-made i n (ItemRead.of-asset w) = item-turn ∙ rw (w .of) (record-made 2 (assetFaultAt ws) ws 0 (some (asset (assetAt ws)) 0) w)
   item-made i n (ItemRead.of-derivatives {members} {stop} w c) =
@@ -229,6 +240,7 @@ module _ (ws : List ℕ) (at : ℕ) where
       (λ _. seen-if ws at _ _ (not (eqb (kindOf (word ws at)) 3)) _ _ (λ _. View.faulty)
       (λ e. seen-single ws at _ _ 2 _ _ (eqb-true _ 3 (not-false _ e)) ProtectionRead.one)))
 
+  -- a protection that stands there is what is read
   pub protection-made : (p : Protection) (next : ℕ) → ProtectionRead ws at p next → protectionTurn ws at ≡ some p 0 next
   protection-made p next (ProtectionRead.one w) =
       protection-turn ∙ rw (lt-leb (length ws) at (kind-there ws at 2 (w .of)), w .of) (record-made 3 (protectionFaultAt ws at) ws at (some (protectionAt ws at) 0) w)

@@ -33,10 +33,11 @@ mayDiffer kind = eqb kind 7 || eqb kind 15
 abbrev pub Plain : List ℕ → ℕ → ℕ → Type 0
 Plain ws from to = (at : ℕ) → from ≤ at → at < to → NoneOf mayDiffer ws at
 
--- one word, and words up to a place and on from there
+-- one word
 plain-one : (ws : List ℕ) (at to : ℕ) → to ≤ suc at → NoneOf mayDiffer ws at → Plain ws at to
 plain-one ws at to k e i h l = let z : i ≡ at = omega arith in rw z e
 
+-- words up to a place, and on from there
 pub plain-append : (ws : List ℕ) (from mid to : ℕ) → Plain ws from mid → Plain ws mid to → Plain ws from to
 plain-append ws from mid to p q i h l = go (decLt i mid)
   where

@@ -113,6 +113,7 @@ pub record Computed : Type 0 where
   pub no-trades : itemOf (drop 11 shorter) ≡ some (noTrades .item) 0 1
   pub shorter-at : begins (itemsOf shorter .records) ≡ 7 ∷ 11 ∷ 12 ∷ 36 ∷ []
 
+-- all of it by computation
 pub computed : Computed
 unfolding gainOf lossOf runFrom cause protectionFault assetFault derivativeSetFault tradeFault basketFault writtenFault coverFault financingSetFault financingTradeFault offBalanceFault headFaulty dateFaulty headOf lacks recordThen protectionAt protectionTurn assetAt assetTurn coverAt coverTurn writtenAt writtenTurn tradeAt tradeTurn basketAt basketTurn memberTurn derivativeSetAt derivativeSetTurn financingTradeAt financingTradeTurn financingMemberTurn financingSetAt financingSetTurn offBalanceAt offBalanceTurn itemOf endFault itemTurn protectionsOf itemsOf scan along picked
 computed = record {
@@ -154,9 +155,11 @@ computed = record {
 
 -- ---- the laws say so of them
 
+-- the items by their kinds
 pub by-kind : scan opens sample (itemsBegin sample) (length sample - itemsBegin sample) ≡ begins (itemsOf sample .records) ++ (itemsOf sample .place ∷ [])
 by-kind = items-by-kind sample (computed .read)
 
+-- a book of its parts
 pub of-parts : sample ≡ bookOf (frontOf sample) (partsOf sample) (endOf sample)
 of-parts = book-written sample (computed .read)
 
@@ -164,6 +167,7 @@ of-parts = book-written sample (computed .read)
 pub one-amount : OneAmount sample valued 24
 one-amount = record { long = refl; there = omega arith; first = refl; second = refl; others = λ i n. sym (getD-set-other sample 24 i 5 0 n) }
 
+-- so only that set changes
 pub one-other : OneOther (ItemHere sample) (ItemHere valued) (PlacedOther sample valued 24) 24 (itemsOf sample .records) (itemsOf valued .records)
 one-other = items-other one-amount (computed .read) (computed .valued-read) (rw (computed .begin) (omega arith)) .2
 
@@ -215,6 +219,7 @@ shortened = record {
         ap (word longer) (sym a) ∙ sym (getD-drop 15 longer (i - 15) 0) ∙ sym (getD-take 26 (drop 15 longer) (i - 15) 0 (omega arith))
         ∙ getD-take 26 (drop 12 shorter) (i - 15) 0 (omega arith) ∙ getD-drop 12 shorter (i - 15) 0 ∙ ap (word shorter) b
 
+-- the law says so
 pub shortened-items : itemsOf shorter .records ≡ take 1 (itemsOf longer .records) ++ noTrades ∷ map (movedPlaced nearer) (drop 2 (itemsOf longer .records))
 shortened-items =
     let items = itemsOf longer .records in
@@ -236,6 +241,7 @@ members : Members
 unfolding gainOf lossOf runFrom cause writtenFault coverFault lacks recordThen coverAt coverTurn writtenAt writtenTurn tradeTurn basketTurn memberTurn
 members = record { first = refl; second = refl; later = refl }
 
+-- so they are read
 pub members-later : Chain (MemberRead creditFirst) 4 (written (writtenAt creditFirst 4 []) ∷ written (writtenAt creditFirst 10 (coverAt creditFirst 16 ∷ [])) ∷ []) 18
 members-later =
     rw (members .later) at

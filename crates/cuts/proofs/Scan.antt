@@ -31,6 +31,7 @@ along size places at [] = []
 along size places at (a ∷ l) = places at a ++ along size places (at + size a) l
 
 module _ (test : ℕ → Bool) (ws : List ℕ) where
+  -- so many words, and so many behind them
   pub scan-add : (m n at : ℕ) → scan test ws at (m + n) ≡ scan test ws at m ++ scan test ws (at + m) n
   unfolding scan
   scan-add zero n at = rw (zero-add n, add-zero at)
@@ -38,6 +39,7 @@ module _ (test : ℕ → Bool) (ws : List ℕ) where
 
   -- ---- in a scan is just what is scanned
 
+  -- a word that passes is found,
   pub in-scan : (n at i : ℕ) → at ≤ i → i < at + n → test (kindOf (word ws i)) ≡ true → List·Memᴰ i (scan test ws at n)
   unfolding scan
   in-scan n at i h l e =
@@ -45,6 +47,7 @@ module _ (test : ℕ → Bool) (ws : List ℕ) where
       let p : at + (i - at) ≡ i = omega arith in
       rw (s, scan-add (i - at) (suc (at + n - suc i)) at, p, e) (Memᴰ·append-right (scan test ws at (i - at)) (List·Memᴰ·head refl))
 
+  -- and what is found is a word that passes
   pub scan-in : (n at i : ℕ) → List·Memᴰ i (scan test ws at n) → (at ≤ i) × (i < at + n) × (test (kindOf (word ws i)) ≡ true)
   unfolding scan
   scan-in zero at i m = absurd (List·Memᴰ·not-nil m)
