@@ -96,8 +96,8 @@ module _ (i : ℕ) where
 
 -- ---- THE LAW OF COVERS
 
-fit-covered : (entries : List Entry) (items : List Placed) → AllFit entries (drawsOver items) ↔ AllCoversFit entries items
-fit-covered entries items = (
+draws-fit-covers : (entries : List Entry) (items : List Placed) → AllFit entries (drawsOver items) ↔ AllCoversFit entries items
+draws-fit-covers entries items = (
   λ s. record { each = items-fit entries items .0 (s .each); enough = λ i h. omega (arith, of-book i items, s .enough i h) },
   λ c. record { each = items-fit entries items .1 (c .each); enough = λ i h. omega (arith, of-book i items, c .enough i h) },
 )
@@ -106,4 +106,4 @@ fit-covered entries items = (
 pub covers-iff : CoversBySums
 covers-iff entries items left =
     Iff·trans (settle-iff entries (drawsOver items) left)
-    (Iff·and (fit-covered entries items) (rw (less-same entries _ _ (λ i. of-book i items)) (λ e. e, λ e. e)))
+    (Iff·and (draws-fit-covers entries items) (rw (less-same entries _ _ (λ i. of-book i items)) (λ e. e, λ e. e)))

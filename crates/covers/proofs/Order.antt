@@ -64,22 +64,22 @@ item-sym : (x y : Item) → ItemAlike x y → ItemAlike y x
 item-sym x y ItemAlike.same = ItemAlike.same
 item-sym x y (ItemAlike.sets p) = ItemAlike.sets (permuted-sym member-sym p)
 
--- ---- what is alike is covered alike, and draws alike
+-- ---- what is alike fits alike, and draws alike
 
 module _ (entries : List Entry) where
-  credit-covered : (v w : WrittenCredit) → CreditAlike v w → CoversFit entries v → CoversFit entries w
-  credit-covered v w a k = record {
+  credit-alike-fits : (v w : WrittenCredit) → CreditAlike v w → CoversFit entries v → CoversFit entries w
+  credit-alike-fits v w a k = record {
     each = rw (← a .entity, ← a .rank, ← a .days) (permuted-every (λ c d e s. rw (← e .protection) s) (a .covers) (k .each));
     within = omega (arith, permuted-total (λ (c : Cover). c .amount) (λ c d e. omega (arith, e .amount)) (a .covers), k .within, a .room);
   }
 
-  member-covered : (m n : Member) → MemberAlike m n → MemberCoversFit entries m → MemberCoversFit entries n
-  member-covered m n MemberAlike.same k = k
-  member-covered m n (MemberAlike.credits {v} {w} a) k = credit-covered v w a k
+  member-alike-fits : (m n : Member) → MemberAlike m n → MemberCoversFit entries m → MemberCoversFit entries n
+  member-alike-fits m n MemberAlike.same k = k
+  member-alike-fits m n (MemberAlike.credits {v} {w} a) k = credit-alike-fits v w a k
 
-  item-covered : (x y : Item) → ItemAlike x y → ItemCoversFit entries x → ItemCoversFit entries y
-  item-covered x y ItemAlike.same k = k
-  item-covered x y (ItemAlike.sets p) k = permuted-every member-covered p k
+  item-alike-fits : (x y : Item) → ItemAlike x y → ItemCoversFit entries x → ItemCoversFit entries y
+  item-alike-fits x y ItemAlike.same k = k
+  item-alike-fits x y (ItemAlike.sets p) k = permuted-every member-alike-fits p k
 
 module _ (i : ℕ) where
   member-drawn : (m n : Member) → MemberAlike m n → drawnIn i m ≡ drawnIn i n
@@ -97,7 +97,7 @@ items-settle : (entries : List Entry) (ps qs : List Placed) (left : List Entry) 
 items-settle entries ps qs left a z =
     let s = covers-iff entries ps left .0 z in
     covers-iff entries qs left .1 (
-      record { each = permuted-every (λ p q. item-covered entries (p .item) (q .item)) a (s .0 .each); enough = λ i h. omega (arith, sums i, s .0 .enough i h) },
+      record { each = permuted-every (λ p q. item-alike-fits entries (p .item) (q .item)) a (s .0 .each); enough = λ i h. omega (arith, sums i, s .0 .enough i h) },
       s .1 ∙ less-same entries _ _ sums,
     )
   where

@@ -160,8 +160,8 @@ nothing-drawn = refl
 abbrev entries : List Entry
 entries = map entryOf protections
 
-all-covered : AllCoversFit entries (one 0 ∷ two 20 50 ∷ [])
-all-covered = record { each = Every.more (Every.more first Every.none) (Every.more (Every.more second Every.none) Every.none); enough = go }
+all-fit : AllCoversFit entries (one 0 ∷ two 20 50 ∷ [])
+all-fit = record { each = Every.more (Every.more first Every.none) (Every.more (Every.more second Every.none) Every.none); enough = go }
   where
     suits : (place days : ℕ) → place < 2 → getD entries place blank .entity ≡ 1 → 1 ≤ getD entries place blank .rank → days ≤ getD entries place blank .days → SuitsIn entries place 1 1 days
     suits place days a b c d = record { below = a; same = b; junior = c; long = d }

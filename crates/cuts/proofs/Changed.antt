@@ -76,14 +76,14 @@ module _ (xs ys : List ℕ) (n : ℕ) (s : Stretch stay xs ys 0 n) (h : firstRec
   unfolding headOf reportingDate dateFaulty
   head-same = rw (at-word 0 (omega arith), at-word 1 (omega arith), at-word 2 (omega arith))
 
-  pub head-fault-same : headFaulty xs ≡ headFaulty ys
+  pub head-faulty-same : headFaulty xs ≡ headFaulty ys
   unfolding headFaulty
-  head-fault-same =
+  head-faulty-same =
       rw (le-ltb (length xs) firstRecord (omega (arith, s .within)), le-ltb (length ys) firstRecord (omega (arith, s .there)), at-word 0 (omega arith), at-word 1 (omega arith))
 
-  pub date-fault-same : dateFaulty xs ≡ dateFaulty ys
+  pub date-faulty-same : dateFaulty xs ≡ dateFaulty ys
   unfolding dateFaulty
-  date-fault-same = rw (at-word 2 (omega arith))
+  date-faulty-same = rw (at-word 2 (omega arith))
 
   -- and, so far as they go, the same protections
   pub protections-same : {at stop : ℕ} {ps : List Protection} → stop ≤ n → Chain (ProtectionRead xs) at ps stop → Chain (ProtectionRead ys) at ps stop
@@ -130,8 +130,8 @@ changed-read xs ys rows entries before p q after r c short =
     record {
       rows-enough = r .rows-enough;
       short = short;
-      head = sym (head-fault-same xs ys (p .begin) (c .front) (omega arith)) ∙ r .head;
-      date = sym (date-fault-same xs ys (p .begin) (c .front) (omega arith)) ∙ r .date;
+      head = sym (head-faulty-same xs ys (p .begin) (c .front) (omega arith)) ∙ r .head;
+      date = sym (date-faulty-same xs ys (p .begin) (c .front) (omega arith)) ∙ r .date;
       room = rw (← b .0) (r .room);
       number = rw (b .2);
       read = rw (b .2);

@@ -19,7 +19,7 @@ use Rattle.cuts.proofs.Moved.{coveredBy, movedMember, word-on, whole-mo
 use Rattle.cuts.proofs.Local.{stay, follows-kind, item-kept, here-goes-not, end-goes-not}
 use Rattle.cuts.proofs.Changed.{member-no-cover, head-same, protections-same}
 use Rattle.cuts.specs.Words.{Inserted}
-use Rattle.cuts.proofs.Covered.{MoreCovers, CoveredMember, memberless, CoveredItem, CoveredPlaced, FurtherCovered}
+use Rattle.cuts.proofs.FurtherCovers.{MoreCovers, FurtherMember, memberless, FurtherItem, FurtherPlaced, FurtherBook}
 use Rattle.cuts.proofs.SameWords.{Plain, plain-append, whole-plain, chain-plain, head-plain, same-first, From, kind-beside, shift, Shifted, whole-beside, cover-beside}
 
 -- ---- what is read of the second, and the first beside it
@@ -76,19 +76,19 @@ module _ (xs ys : List ℕ) where
   covers-beside (Chain.then c t) e i r = cover-more c (λ k q. covers-beside t e k q) i r
 
   -- a trade or a basket
-  kept-member : (n i j : ℕ) (m : Member) → MemberRead ys j m (j + suc n) → CoveredMember (movedMember (shift i j) m) m → Shifted (suc n) xs ys i j
-      → Beside xs ys (MemberRead xs) CoveredMember i m (j + suc n)
+  kept-member : (n i j : ℕ) (m : Member) → MemberRead ys j m (j + suc n) → FurtherMember (movedMember (shift i j) m) m → Shifted (suc n) xs ys i j
+      → Beside xs ys (MemberRead xs) FurtherMember i m (j + suc n)
   kept-member n i j m c t s =
       let a : shift i j j ≡ i = omega arith in
       let b : shift i j (j + suc n) ≡ i + suc n = omega arith in
       let d = member-moved (s .words) (λ e. rw (b, kind-beside xs ys (i + suc n) (j + suc n) (s .rest) e) e) j m (j + suc n) (omega arith) (omega arith) c in
       record { first = _; end = _; read = rw (a, b) at d; more = t; rest = s .rest }
 
-  member-beside : EachBeside xs ys (MemberRead xs) (MemberRead ys) CoveredMember
+  member-beside : EachBeside xs ys (MemberRead xs) (MemberRead ys) FurtherMember
   unfolding writtenAt
-  member-beside i j m next (MemberRead.of-trade w) e r = kept-member 4 i j _ (MemberRead.of-trade w) CoveredMember.of-trade (whole-beside 5 _ xs ys i j w refl r)
+  member-beside i j m next (MemberRead.of-trade w) e r = kept-member 4 i j _ (MemberRead.of-trade w) FurtherMember.of-trade (whole-beside 5 _ xs ys i j w refl r)
   member-beside i j m next (MemberRead.of-basket w) e r =
-      kept-member (namesIn (word ys j) + 2) i j _ (MemberRead.of-basket w) CoveredMember.of-basket (whole-beside 11 _ xs ys i j w refl r)
+      kept-member (namesIn (word ys j) + 2) i j _ (MemberRead.of-basket w) FurtherMember.of-basket (whole-beside 11 _ xs ys i j w refl r)
   member-beside i j m next (MemberRead.of-credit {covers} w cut) e r =
       let s = whole-beside 6 _ xs ys i j w refl r in
       let z : shift i j j ≡ i = omega arith in
@@ -101,7 +101,7 @@ module _ (xs ys : List ℕ) where
       let k = rw z at (whole-moved (s .words) 6 (writtenFaultAt ys j) (writtenFaultAt xs i) j (omega arith) (omega arith) (rw (x, a, b, c, d, g)) w) in
       let q = covers-beside (cut .chain) (cut .last) (i + 6) (s .rest) in
       let l : coveredBy [] (writtenAt xs i (q .first)) ≡ coveredBy [] (writtenAt ys j covers) = rw (x, a, b, c, d, g) in
-      record { first = _; end = q .end; read = MemberRead.of-credit k (q .read); more = CoveredMember.of-credit (record { alike = l; covers = q .more }); rest = q .rest }
+      record { first = _; end = q .end; read = MemberRead.of-credit k (q .read); more = FurtherMember.of-credit (record { alike = l; covers = q .more }); rest = q .rest }
 
 -- ---- items, in words of their own
 
@@ -114,14 +114,14 @@ protection-plain ws at p next (ProtectionRead.one w) = whole-plain 3 _ ws at w r
 
 module _ (u v : List ℕ) where
   abbrev ItemBeside : Item → ℕ → Type 0
-  ItemBeside = Beside u v (λ (_ : ℕ). ItemRead u) CoveredItem 0
+  ItemBeside = Beside u v (λ (_ : ℕ). ItemRead u) FurtherItem 0
 
   -- an item that is no derivative set
   kept-item : (i : Item) (n : ℕ) → ItemRead v i n → NoneOf isCover v n → Inserted u v → Plain v 0 n → ItemBeside i n
   kept-item i n h e r p =
       let f = same-first n r p in
       let k = follows-kind stay v u n (sym (kind-beside u v n n (f .rest) e)) in
-      record { first = i; end = n; read = item-kept n v u (f .words) k i n (omega arith) h; more = CoveredItem.same; rest = f .rest }
+      record { first = i; end = n; read = item-kept n v u (f .words) k i n (omega arith) h; more = FurtherItem.same; rest = f .rest }
 
   item-beside : (i : Item) (n : ℕ) → ItemRead v i n → NoneOf isCover v n → Inserted u v → ItemBeside i n
   unfolding derivativeSetAt
@@ -143,14 +143,14 @@ module _ (u v : List ℕ) where
         first = _;
         end = q .end;
         read = ItemRead.of-derivatives k (record { chain = q .read; last = o });
-        more = CoveredItem.of-derivatives (record { alike = l; members = q .more });
+        more = FurtherItem.of-derivatives (record { alike = l; members = q .more });
         rest = q .rest;
       }
 
 -- ---- books
 
 -- an item where it stands
-here-beside : (xs ys : List ℕ) → EachBeside xs ys (ItemHere xs) (ItemHere ys) CoveredPlaced
+here-beside : (xs ys : List ℕ) → EachBeside xs ys (ItemHere xs) (ItemHere ys) FurtherPlaced
 here-beside xs ys i j q next (ItemHere.here {i = b} {n} h) e r =
     let p = item-beside (drop i xs) (drop j ys) b n h (rw (getD-drop j ys n 0) e) r in
     record { first = _; end = _; read = ItemHere.here (p .read); more = p .more; rest = rw (← drop-drop (p .end) i xs, ← drop-drop n j ys) (p .rest) }
@@ -173,7 +173,7 @@ items-only ws (Chain.then {at} {next} {a = p} h c) e (Chain.then {next = after} 
 
 -- FURTHER COVERS: two books that are read without a fault, the second with covers put in, have the same head, the same protections, and items
 -- that are equal but for these covers
-pub further-covers : (xs ys : List ℕ) → Inserted xs ys → headFaulty ys ≡ false → dateFaulty ys ≡ false → itemsOf xs .number ≡ 0 → itemsOf ys .number ≡ 0 → FurtherCovered xs ys
+pub further-covers : (xs ys : List ℕ) → Inserted xs ys → headFaulty ys ≡ false → dateFaulty ys ≡ false → itemsOf xs .number ≡ 0 → itemsOf ys .number ≡ 0 → FurtherBook xs ys
 further-covers xs ys r g d e f =
     let k = book-cut xs e in
     let c = book-cut ys f in

@@ -2,17 +2,16 @@
 -- causes holds, and the run behind it is cut. Assumes nothing.
 use Prim.Native.Nat.{ℕ, zero, suc, _+_, _≤_, _<_}
 use mathlib.Core.Path.{_≡_, refl, sym, _∙_, ap}
-use mathlib.Core.Bool.{Bool, true, false, not, _&&_, _||_, cond, and-false}
+use mathlib.Core.Bool.{Bool, true, false, _&&_, cond, and-false}
 use mathlib.Core.List.{List}
 use native.Mathlib.Omega.{arith}
 use native.Mathlib.Decide.{decLt}
-use borrow.Author.Tests.{eqb-true, lt-ltb, not-false}
+use borrow.Author.Tests.{eqb-true, lt-ltb}
 use lib.Dec.{eqb, ltb}
 use lib.ListN.{length, List·getD-eq-default}
-use Rattle.rules.specs.Word.{word, kindOf, payloadOf, amountsOfKind}
+use Rattle.rules.specs.Word.{word, kindOf, amountsOfKind}
 use Rattle.rules.specs.Run.{Turn, over, bad, some, runFrom, sound}
-use Rattle.rules.specs.Read.{firstRecord, headFaulty, lacks, recordThen, stands}
-use Rattle.rules.proofs.Lists.{or-left, or-right}
+use Rattle.rules.specs.Read.{lacks, recordThen, stands}
 use Rattle.laws.proofs.Records.{amounts-at, lacks-room}
 use Rattle.cuts.proofs.Chains.{Chain, Cut, View, chain-onward, chain-run, run-cut, run-within, seen-onward}
 
@@ -36,19 +35,6 @@ stands-by-kind ws at kind = go (eqb (kindOf (word ws at)) (suc kind)) refl
     go : (b : Bool) → eqb (kindOf (word ws at)) (suc kind) ≡ b → ltb at (length ws) && b ≡ b
     go true e = rw (lt-ltb at (length ws) (kind-there ws at kind (eqb-true _ _ e)))
     go false e = and-false (ltb at (length ws))
-
--- a good head has its word and a Tier 1 word
-pub head-kinds : (ws : List ℕ) → headFaulty ws ≡ false → (kindOf (word ws 0) ≡ 1) × (kindOf (word ws 1) ≡ 0)
-unfolding headFaulty
-head-kinds ws e =
-    let short = ltb (length ws) firstRecord in
-    let other = not (eqb (kindOf (word ws 0)) 1) in
-    let many = ltb 4096 (payloadOf (word ws 0)) in
-    let tier = not (eqb (kindOf (word ws 1)) 0) in
-    let d = or-left (short || other || many || tier) _ e in (
-      eqb-true _ 1 (not-false _ (or-right short other (or-left (short || other) many (or-left (short || other || many) tier d)))),
-      eqb-true _ 0 (not-false _ (or-right (short || other || many) tier d)),
-    )
 
 -- ---- a record that is whole: its amounts, as many as its kind asks for, are there, and none of its own causes holds
 

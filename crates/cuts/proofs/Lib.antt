@@ -16,7 +16,7 @@ pub mod Written
 pub mod Parts
 pub mod Steps
 pub mod OneAmount
-pub mod Covered
+pub mod FurtherCovers
 pub mod SameWords
 pub mod Further
 pub mod SampleBooks

@@ -14,10 +14,11 @@ use lib.Seq.{getD-drop, drop-drop}
 use Rattle.rules.specs.Word.{word, kindOf}
 use Rattle.rules.specs.Read.{firstRecord, headFaulty, dateFaulty, lacks}
 use Rattle.rules.proofs.Lists.{or-left}
+use Rattle.laws.proofs.GoodHead.{good-head}
 use Rattle.laws.proofs.Records.{head-word}
 use Rattle.cuts.proofs.Amounts.{amount-kind}
 use Rattle.cuts.proofs.Chains.{Chain}
-use Rattle.cuts.proofs.Grammar.{head-kinds, Whole, amountsAt}
+use Rattle.cuts.proofs.Grammar.{Whole, amountsAt}
 use Rattle.cuts.proofs.Records.{NoneOf, isCover}
 use Rattle.cuts.proofs.Moved.{Stretch}
 use Rattle.cuts.proofs.Local.{stay}
@@ -66,9 +67,9 @@ chain-plain ws f (Chain.then {at} {next} {stop} {a} r c) = plain-append ws at ne
 pub head-plain : (ws : List ℕ) → headFaulty ws ≡ false → dateFaulty ws ≡ false → Plain ws 0 firstRecord
 unfolding dateFaulty
 head-plain ws e d =
-    let k = head-kinds ws e in
+    let k = good-head ws e in
     let c = eqb-true (kindOf (word ws 2)) 0 (not-false _ (or-left (not (eqb (kindOf (word ws 2)) 0)) _ d)) in
-    plain-append ws 0 1 3 (plain-one ws 0 1 (omega arith) (rw (k .0))) (plain-append ws 1 2 3 (plain-one ws 1 2 (omega arith) (rw (k .1))) (plain-one ws 2 3 (omega arith) (rw c)))
+    plain-append ws 0 1 3 (plain-one ws 0 1 (omega arith) (rw (k .first))) (plain-append ws 1 2 3 (plain-one ws 1 2 (omega arith) (rw (k .second))) (plain-one ws 2 3 (omega arith) (rw c)))
 
 -- ---- they are the same in both
 

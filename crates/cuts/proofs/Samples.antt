@@ -31,7 +31,7 @@ use Rattle.cuts.proofs.Parts.{frontOf, partsOf, endOf, book-written}
 use Rattle.cuts.proofs.Steps.{OneOther}
 use Rattle.cuts.specs.Words.{OneAmount, Inserted}
 use Rattle.cuts.proofs.OneAmount.{PlacedOther, amount-shape, items-other}
-use Rattle.cuts.proofs.Covered.{same-before, MoreCovers, FurtherCovered}
+use Rattle.cuts.proofs.FurtherCovers.{same-before, MoreCovers, FurtherBook}
 use Rattle.cuts.proofs.Further.{further-covers}
 use Rattle.cuts.proofs.SampleBooks.{sampleFront, emptyFinancing, anAsset, emptySet, aTrade, aBasket, aCredit, aCover, aSet, aCommitment, bookWith, sampleItems, sample}
 
@@ -193,7 +193,7 @@ two-put =
     same-before (sampleFront ++ anAsset 7 ++ aSet 0)
     (Inserted.put refl refl (same-before upToCovers (Inserted.put refl refl (same-before (aCover 20 ++ aCommitment) (Inserted.ends refl refl)))))
 
-pub more-covered : FurtherCovered lessCovered moreCovered
+pub more-covered : FurtherBook lessCovered moreCovered
 more-covered = further-covers lessCovered moreCovered two-put (computed .second-head) (computed .second-date) (computed .first-read) (computed .second-read)
 
 -- in two books of one shape the items stand at the same places

@@ -17,7 +17,7 @@ use Rattle.cuts.proofs.Records.{NoneOf, goesOn, ItemRead, item-onward, 
 use Rattle.cuts.proofs.Cutting.{ItemHere, EndHere, itemsBegin, item-kind, test-item, cut-protections, cut-items}
 use Rattle.cuts.proofs.Moved.{Stretch}
 use Rattle.cuts.proofs.Local.{stay, first-words, OneItem, item-before}
-use Rattle.cuts.proofs.Changed.{head-same, head-fault-same, date-fault-same, protections-same}
+use Rattle.cuts.proofs.Changed.{head-same, head-faulty-same, date-faulty-same, protections-same}
 
 -- ---- what is written
 
@@ -124,8 +124,8 @@ module _ {front : List ℕ} {ps : List Protection} {items : List (List ℕ)} {is
   written-read rows entries enough short head date room = record {
     rows-enough = enough;
     short = short;
-    head = sym (head-fault-same front _ (length front) front-same three) ∙ head;
-    date = sym (date-fault-same front _ (length front) front-same three) ∙ date;
+    head = sym (head-faulty-same front _ (length front) front-same three) ∙ head;
+    date = sym (date-faulty-same front _ (length front) front-same three) ∙ date;
     room = rw (← written-head) room;
     number = rw written-items;
     read = rw written-items;

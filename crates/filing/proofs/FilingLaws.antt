@@ -12,6 +12,7 @@ use Rattle.rules.specs.Read.{headOf}
 use Rattle.rules.specs.Rows.{sumsOf}
 use Rattle.rules.specs.Filing.{Outcome, early, refused, accepted, admission, outcomeOf, registerAfter, filingOf, filing}
 use Rattle.rules.proofs.Lists.{total-le-all}
+use Rattle.laws.proofs.GoodHead.{good-head}
 use Rattle.laws.proofs.Accepted.{accepted-is}
 use Rattle.laws.proofs.ExposureSum.{accepted-balance, ups-are, downs-are}
 use Rattle.laws.proofs.ItemBounds.{itemWeight, items-small}
@@ -21,7 +22,6 @@ use Rattle.reading.specs.declared.Admission.{Admission}
 use Rattle.filing.specs.declared.Answer.{Answer}
 use Rattle.filing.specs.declared.Answer.the-variants.{Refused}
 use Rattle.filing.specs.Answers.{admissionOf, answerTo, rowsTo, AdmissionFits, filed}
-use Rattle.filing.proofs.StageLaws.{head-good}
 
 -- ---- the sums of an accepted book fit the rows
 
@@ -30,7 +30,7 @@ unfolding sumsOf
 small ws rows entries items left e =
     let a = accepted-is ws rows entries items left e in
     let bands = headOf ws .bands in
-    let l = rw (a .reading .read) at (items-small bands ws (head-good ws (a .reading .head) .0)) in
+    let l = rw (a .reading .read) at (items-small bands ws (good-head ws (a .reading .head) .long)) in
     let m = total-le-all (λ (p : Placed). allRows bands (p .item)) (λ (p : Placed). itemWeight bands (p .item)) (λ p. rows-at-most bands (p .item)) items in
     let t = sums-total bands items in
     let short = a .reading .short in

@@ -1,7 +1,7 @@
 -- The stages of a filing, from what each part of the code answers to the definitions. Assumes nothing.
 use Prim.Native.Nat.{ℕ, _^_, _≤_}
 use mathlib.Core.Path.{_≡_, refl, sym, _∙_, ap}
-use mathlib.Core.Bool.{Bool, true, false, not, _||_, cond, true≢false}
+use mathlib.Core.Bool.{Bool, true, false, cond, true≢false}
 use mathlib.Core.List.{List, [], _∷_, _++_}
 use native.Mathlib.Omega.{arith}
 use borrow.Author.Tests.{ltb-false}
@@ -10,14 +10,13 @@ use lib.ListN.{length, drop, replicate, length-set}
 use lib.Seq.{drop-at}
 use Rattle.rules.specs.declared.Draw.{Draw}
 use Rattle.rules.specs.declared.Entry.{Entry}
-use Rattle.rules.specs.Word.{word, kindOf, payloadOf, minusZero}
 use Rattle.rules.specs.Book.{Head, Placed}
 use Rattle.rules.specs.Run.{Run}
 use Rattle.rules.specs.Read.{firstRecord, headFaulty, dateFaulty, headOf, itemsOf}
 use Rattle.rules.specs.Register.{blank, drawFault, drawn, drawsOver, Settled, unfit, settled, settle}
 use Rattle.rules.specs.Rows.{sumsOf}
 use Rattle.rules.specs.Filing.{Outcome, early, refused, accepted, judged, recordsOutcome, admission, registerAfter}
-use Rattle.rules.proofs.Lists.{or-left, or-right}
+use Rattle.laws.proofs.GoodHead.{good-head}
 use Rattle.laws.proofs.Settling.{settle-one, settle-none}
 use Rattle.records.specs.Readable.{Readable}
 use Rattle.reading.specs.declared.Admission.{Admission}
@@ -31,17 +30,6 @@ use Rattle.filing.specs.Answers.{earlyNumber, refusedIn, admissionOf}
 use Rattle.filing.proofs.Loads.{records-are}
 
 -- ---- before the records
-
--- a good head has all its words and at most 4,096 protections
-pub head-good : (ws : List ℕ) → headFaulty ws ≡ false → (firstRecord ≤ length ws) × (headOf ws .protections ≤ 4096)
-unfolding headFaulty headOf
-head-good ws e =
-    let short = ltb (length ws) firstRecord in
-    let other = not (eqb (kindOf (word ws 0)) 1) in
-    let many = ltb 4096 (payloadOf (word ws 0)) in
-    let none = not (eqb (kindOf (word ws 1)) 0) in
-    let c = or-left (short || other || many) none (or-left (short || other || many || none) (minusZero (word ws 1)) e) in
-    (ltb-false (length ws) firstRecord (or-left short other (or-left (short || other) many c)), ltb-false 4096 (payloadOf (word ws 0)) (or-right (short || other) many c))
 
 pub refused-early : (ws : List ℕ) (entries r : ℕ) → r ≡ earlyNumber ws entries → (r ≡ 0 → ⊥) → admission ws entries ≡ early r
 unfolding earlyNumber admission
@@ -73,7 +61,7 @@ looked-at ws entries r q z = go (ltb (2 ^ 20) (length ws)) refl (headFaulty ws) 
     go false e false f true i c g h = let o : ⊥ = omega arith in absurd o
     go false e false f false i true g h = let o : ⊥ = omega arith in absurd o
     go false e false f false i false g h =
-        record { readable = record { within = head-good ws f .0; short = ltb-false _ _ e }; count = head-good ws f .1; room = ltb-false _ _ g; outcome = simp (e, f, i, g) }
+        record { readable = record { within = good-head ws f .long; short = ltb-false _ _ e }; count = good-head ws f .few; room = ltb-false _ _ g; outcome = simp (e, f, i, g) }
 
 -- ---- what the draws leave
 

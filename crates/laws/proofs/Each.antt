@@ -2,15 +2,16 @@
 use mathlib.Core.List.{List, [], _∷_, _++_}
 use mathlib.Core.Logic.{_↔_}
 use Rattle.rules.proofs.Lists.{Every}
-use Rattle.rules.proofs.Lists
 
 module _ {A : Type 0} {P : A → Type 0} where
+  -- a first and others
   pub every-first : (x : A) (xs : List A) → Every P (x ∷ xs) ↔ (P x × Every P xs)
   every-first x xs = (apart, λ p. Every.more (p .0) (p .1))
     where
       apart : Every P (x ∷ xs) → P x × Every P xs
       apart (Every.more p e) = (p, e)
 
+  -- some and others behind them
   pub every-append : (xs ys : List A) → Every P (xs ++ ys) ↔ (Every P xs × Every P ys)
   every-append [] ys = (λ e. (Every.none, e), λ p. p .1)
   every-append (x ∷ xs) ys =

@@ -1,3 +1,4 @@
+pub mod GoodHead
 pub mod Accepted
 pub mod Financing
 pub mod Valid

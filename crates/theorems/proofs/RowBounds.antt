@@ -1,26 +1,23 @@
 -- Every row of an accepted book fits a signed number of 64 bits. Assumes nothing.
 use Prim.Native.Nat.{ℕ, zero, suc, _+_, _*_, _^_, _≤_, _<_}
-use mathlib.Core.Path.{_≡_}
-use mathlib.Core.Bool.{false}
 use mathlib.Core.List.{List, _∷_}
 use native.Mathlib.Omega.{arith}
-use borrow.Author.Tests.{ltb-false}
-use lib.Dec.{ltb}
 use lib.IntN.{ℤ, pos, natAbs, _+ℤ_}
-use lib.ListN.{length, getD}
+use lib.ListN.{getD}
 use lib.Signed.{mag}
 use Rattle.rules.specs.declared.Bands.{Bands}
 use Rattle.rules.specs.declared.Entry.{Entry}
 use Rattle.rules.specs.declared.Sums.{Sums}
 use Rattle.rules.specs.Word.{word}
 use Rattle.rules.specs.Book.{Placed}
-use Rattle.rules.specs.Read.{headFaulty, headOf, firstRecord}
+use Rattle.rules.specs.Read.{headOf}
 use Rattle.rules.specs.Ratio.{tier1Of, ratioOf}
 use Rattle.rules.specs.Rows.{minus, sumOver, sumsOf, onBalance, ofDerivativeRows, ofFinancingRows, ofOffBalanceRows, exposureRow, rowsOf}
-use Rattle.rules.proofs.Lists.{Every, total-le-all, or-left}
+use Rattle.rules.proofs.Lists.{Every, total-le-all}
 use Rattle.rules.proofs.Lists
 use Rattle.laws.specs.Exposure.{exposureOf}
 use Rattle.theorems.specs.Claims.{AllRowsFit}
+use Rattle.laws.proofs.GoodHead.{good-head}
 use Rattle.laws.proofs.Accepted.{Accepted, accepted-is}
 use Rattle.laws.proofs.FactorBounds.{gain-small, loss-small}
 use Rattle.laws.proofs.ItemBounds.{itemWeight, items-small}
@@ -115,14 +112,9 @@ place-fits (Every.more h t) (suc k) = place-fits t k
 
 -- ---- an accepted book
 
--- a good head has all its words
-head-words : (ws : List ℕ) → headFaulty ws ≡ false → firstRecord ≤ length ws
-unfolding headFaulty
-head-words ws e = ltb-false (length ws) firstRecord (or-left (ltb (length ws) firstRecord) _ (or-left _ _ (or-left _ _ (or-left _ _ e))))
-
 module _ (ws : List ℕ) (rows entries : ℕ) (items : List Placed) (left : List Entry) (a : Accepted ws rows entries items left) (bands : Bands) where
   weight-small : sumOver (itemWeight bands) items ≤ 2 ^ 61
-  weight-small = omega (arith, rw (a .reading .read) at (items-small bands ws (head-words ws (a .reading .head))), a .reading .short)
+  weight-small = omega (arith, rw (a .reading .read) at (items-small bands ws (good-head ws (a .reading .head) .long)), a .reading .short)
 
   rows-small : sumOver (allRows bands) items ≤ 2 ^ 61
   rows-small = omega (arith, weight-small, total-le-all (λ (p : Placed). allRows bands (p .item)) (λ (p : Placed). itemWeight bands (p .item)) (λ p. rows-at-most bands (p .item)) items)

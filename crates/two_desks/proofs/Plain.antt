@@ -15,7 +15,8 @@ use Rattle.rules.specs.Read.{headOf, firstRecord, headFaulty, dateFaulty, repor
 use Rattle.rules.specs.TwoDesks.{MoreMarks}
 use Rattle.rules.proofs.Lists.{or-true}
 use Rattle.rules.proofs.Runs.{Turns}
-use Rattle.cuts.proofs.Grammar.{kind-there, head-kinds}
+use Rattle.laws.proofs.GoodHead.{good-head}
+use Rattle.cuts.proofs.Grammar.{kind-there}
 use Rattle.cuts.specs.Words.{Wordwise}
 use Rattle.cuts.proofs.Shape.{turns-eq, eq-turns, run-same, record-turns, stands-turns, protection-turns, member-turns}
 use Rattle.two_desks.proofs.Amounts.{shape, word-same, amount-same, amounts-same, by-kind}
@@ -104,7 +105,7 @@ module _ (xs ys : List ℕ) (l : Wordwise MoreMarks xs ys) where
   -- a head that is not faulty is the same
   pub head-same : headFaulty xs ≡ false → headOf xs ≡ headOf ys
   unfolding headOf
-  head-same e = let k = head-kinds xs e in rw (word-same xs ys l 0 1 (k .0) refl, word-same xs ys l 1 0 (k .1) refl, date-same)
+  head-same e = let k = good-head xs e in rw (word-same xs ys l 0 1 (k .first) refl, word-same xs ys l 1 0 (k .second) refl, date-same)
 
   pub protections-same : headFaulty xs ≡ false → protectionsOf xs ≡ protectionsOf ys
   unfolding protectionsOf

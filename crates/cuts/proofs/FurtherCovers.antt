@@ -20,15 +20,15 @@ pub data MoreCovers : List Cover → List Cover → Type 0 where
   further : {d : Cover} {cs ds : List Cover} → MoreCovers cs ds → MoreCovers cs (d ∷ ds)
 
 -- equal but for further covers
-pub record CoveredCredit (w v : WrittenCredit) : Type 0 where
+pub record FurtherCredit (w v : WrittenCredit) : Type 0 where
   pub alike : coveredBy [] w ≡ coveredBy [] v
   pub covers : MoreCovers (w .covers) (v .covers)
 
 -- a trade and a basket have no covers
-pub data CoveredMember : Member → Member → Type 0 where
-  of-trade : {t : Trade} → CoveredMember (trade t) (trade t)
-  of-credit : {w v : WrittenCredit} → CoveredCredit w v → CoveredMember (written w) (written v)
-  of-basket : {b : Basket} → CoveredMember (basket b) (basket b)
+pub data FurtherMember : Member → Member → Type 0 where
+  of-trade : {t : Trade} → FurtherMember (trade t) (trade t)
+  of-credit : {w v : WrittenCredit} → FurtherCredit w v → FurtherMember (written w) (written v)
+  of-basket : {b : Basket} → FurtherMember (basket b) (basket b)
 
 -- a derivative set without its members
 abbrev pub memberless : DerivativeSet → DerivativeSet
@@ -46,21 +46,21 @@ memberless s = record {
 }
 
 -- equal but for further covers of members
-pub record CoveredSet (s t : DerivativeSet) : Type 0 where
+pub record FurtherSet (s t : DerivativeSet) : Type 0 where
   pub alike : memberless s ≡ memberless t
-  pub members : Pairs CoveredMember (s .members) (t .members)
+  pub members : Pairs FurtherMember (s .members) (t .members)
 
 -- the same item, as any asset, financing set or off-balance item is; or two such sets
-pub data CoveredItem : Item → Item → Type 0 where
-  same : {i : Item} → CoveredItem i i
-  of-derivatives : {s t : DerivativeSet} → CoveredSet s t → CoveredItem (derivatives s) (derivatives t)
+pub data FurtherItem : Item → Item → Type 0 where
+  same : {i : Item} → FurtherItem i i
+  of-derivatives : {s t : DerivativeSet} → FurtherSet s t → FurtherItem (derivatives s) (derivatives t)
 
 -- wherever the two stand
-abbrev pub CoveredPlaced : Placed → Placed → Type 0
-CoveredPlaced p q = CoveredItem (p .item) (q .item)
+abbrev pub FurtherPlaced : Placed → Placed → Type 0
+FurtherPlaced p q = FurtherItem (p .item) (q .item)
 
 -- the same head, the same protections, and items side by side
-pub record FurtherCovered (xs ys : List ℕ) : Type 0 where
+pub record FurtherBook (xs ys : List ℕ) : Type 0 where
   pub head : headOf xs ≡ headOf ys
   pub protections : protectionsOf xs .records ≡ protectionsOf ys .records
-  pub items : Pairs CoveredPlaced (itemsOf xs .records) (itemsOf ys .records)
+  pub items : Pairs FurtherPlaced (itemsOf xs .records) (itemsOf ys .records)
