@@ -21,3 +21,4 @@ pub mod SameWords
 pub mod Further
 pub mod SampleBooks
 pub mod Samples
+pub mod SamplesByWord

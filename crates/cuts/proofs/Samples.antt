@@ -5,7 +5,7 @@ use mathlib.Core.Bool.{false}
 use mathlib.Core.List.{List, [], _∷_, _++_, map}
 use native.Mathlib.Omega.{arith}
 use lib.Dec.{eqb}
-use lib.ListN.{length, take, drop}
+use lib.ListN.{length, take, drop, getD}
 use lib.Seq.{getD-set-other, getD-take, getD-drop}
 use Rattle.rules.specs.Word.{word, gainOf, lossOf}
 use Rattle.rules.specs.Book.{Cover, written, asset, financing, Placed}
@@ -36,7 +36,7 @@ use Rattle.cuts.proofs.Further.{further-covers}
 use Rattle.cuts.proofs.SampleBooks.{sampleFront, emptyFinancing, anAsset, emptySet, aTrade, aBasket, aCredit, aCover, aSet, aCommitment, bookWith, sampleItems, sample}
 
 -- the same book with another carrying amount, and with another value of a trade
-abbrev carried : List ℕ
+abbrev pub carried : List ℕ
 carried = bookWith (sampleItems 8 0)
 
 abbrev valued : List ℕ
@@ -56,7 +56,7 @@ abbrev moreCovered : List ℕ
 moreCovered = bookWith (anAsset 7 ∷ (aSet 0 ++ aCover 5) ∷ (upToCovers ++ aCover 6 ++ aCover 20) ∷ aCommitment ∷ [])
 
 -- the first asset of either, where it stands
-abbrev assetWith : (carrying : ℕ) → Placed
+abbrev pub assetWith : (carrying : ℕ) → Placed
 assetWith carrying = record { begin = 11; end = 15; item = asset (record { fiduciary = false; carrying = carrying; provision = 0; deducted = 0 }) }
 
 -- an asset, and in its place an empty financing set, three words shorter
@@ -68,6 +68,10 @@ shorter = bookWith (emptySet ∷ emptyFinancing ∷ aSet 0 ∷ aCommitment ∷ [
 
 abbrev noTrades : Placed
 noTrades = record { begin = 11; end = 12; item = financing (record { netting = false; agent = false; further = false; trades = [] }) }
+
+-- the fourth item of the sample book
+abbrev pub theSet : Placed
+theSet = getD (itemsOf sample .records) 3 (assetWith 7)
 
 pub record Computed : Type 0 where
   -- ---- the cut: where the items begin and how long they are, the sets among them, the end, and all records
@@ -83,6 +87,10 @@ pub record Computed : Type 0 where
   pub opening : scan opens sample 7 49 ≡ 7 ∷ 11 ∷ 15 ∷ 19 ∷ 43 ∷ 44 ∷ 53 ∷ 55 ∷ []
   pub of-sets : scan isSet sample 7 49 ≡ 7 ∷ 19 ∷ 43 ∷ 44 ∷ []
   pub covers : scan (λ kind. eqb kind 7) sample 7 49 ≡ 39 ∷ 41 ∷ []
+  -- ---- the set with one of each kind of member, where it stands
+  pub set-begins : theSet .begin ≡ 19
+  pub set-ends : theSet .end ≡ 43
+  pub around-it : itemsOf sample .records ≡ take 3 (itemsOf sample .records) ++ theSet ∷ drop 4 (itemsOf sample .records)
   -- ---- an item is its own words: but a trade behind an empty set is taken into it, and a set behind it is not
   pub alone : lengthsOf (bookWith (emptySet ∷ anAsset 7 ∷ [])) ≡ 4 ∷ 4 ∷ []
   pub taken : lengthsOf (bookWith (emptySet ∷ aTrade 0 ∷ [])) ≡ 9 ∷ []
@@ -93,6 +101,7 @@ pub record Computed : Type 0 where
   pub turned : partsOf (bookWith (aCommitment ∷ aSet 0 ∷ anAsset 7 ∷ [])) ≡ aCommitment ∷ aSet 0 ∷ anAsset 7 ∷ []
   -- ---- one amount other: cut alike; of an item more, those behind stand elsewhere
   pub carried-read : itemsOf carried .number ≡ 0
+  pub carried-parts : partsOf carried ≡ sampleItems 8 0
   pub valued-read : itemsOf valued .number ≡ 0
   pub carried-at : begins (itemsOf carried .records) ≡ 7 ∷ 11 ∷ 15 ∷ 19 ∷ 43 ∷ 44 ∷ 53 ∷ []
   pub valued-at : begins (itemsOf valued .records) ≡ 7 ∷ 11 ∷ 15 ∷ 19 ∷ 43 ∷ 44 ∷ 53 ∷ []
@@ -128,6 +137,9 @@ computed = record {
   opening = refl;
   of-sets = refl;
   covers = refl;
+  set-begins = refl;
+  set-ends = refl;
+  around-it = refl;
   alone = refl;
   taken = refl;
   followed = refl;
@@ -135,6 +147,7 @@ computed = record {
   parts = refl;
   turned = refl;
   carried-read = refl;
+  carried-parts = refl;
   valued-read = refl;
   carried-at = refl;
   valued-at = refl;
