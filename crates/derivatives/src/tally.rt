@@ -5,6 +5,7 @@ use rules::Bands;
 use rules::payloads;
 use weights::factors::credit_factor;
 use weights::factors::trade_factor;
+use weights::kept::kept_in;
 use words::amount::gain;
 use words::amount::loss;
 use words::amount::size;
@@ -17,12 +18,12 @@ ghost use mathlib.Core.Path.{_≡_};
 ghost use Prim.Native.Nat.{_≤_, _^_};
 ghost use Rattle.rules.specs.Word.{sizeOf};
 ghost use Rattle.rules.specs.Book.{trade};
-ghost use Rattle.rules.specs.Weigh.{keptIn, tradeAddOn, writtenAddOn};
+ghost use Rattle.rules.specs.Weigh.{tradeAddOn, writtenAddOn};
 ghost use Rattle.derivatives.specs.Gathered.{TallyRoomy, noTally, plusBasket, plusMember, plusWritten};
 ghost use Rattle.derivatives.specs.Words.{tradeOf, writtenOf};
 
-// The gains and losses of the values, the gross add-on, those of written credits without cover, notional less loss of written
-// credits, and their covers. Add-ons are in thousandths, all else in units.
+// The gains and losses of the values, the gross add-on, what does not stay in of those of written credits, notional less loss of
+// written credits, and their covers. Add-ons are in thousandths, all else in units.
 pub struct Tally {
     pub gains: u64,
     pub losses: u64,
@@ -73,13 +74,15 @@ impl Tally {
         ensures { λ r. ⌜ r ≡ plusWritten self (writtenOf w) covered ⌝ }
     {
         let add_on = written_add_on(w);
-        let kept = kept_in(add_on, covered, wide(size(w.notional)));
+        let notional = size(w.notional);
+        let written = notional - size(w.loss_taken);
+        self.gross = self.gross + add_on;
         self.gains = self.gains + wide(gain(w.value));
         self.losses = self.losses + wide(loss(w.value));
-        self.gross = self.gross + add_on;
-        self.uncovered = self.uncovered + (add_on - kept);
-        self.written = self.written + wide(size(w.notional) - size(w.loss_taken));
+        self.written = self.written + wide(written);
         self.covered = self.covered + covered;
+        let kept = kept_in(add_on, covered, wide(notional));
+        self.uncovered = self.uncovered + (add_on - kept);
         self
     }
 }
@@ -122,14 +125,4 @@ fn written_add_on(w: WrittenWords) -> u64
         product,
         lesser(product, bound),
     )
-}
-
-// What stays in of a written credit's add-on: nothing without cover, else all.
-fn kept_in(add_on: u64, covered: u64, notional: u64) -> u64
-    ensures { λ r. ⌜ r ≡ keptIn «add_on» covered notional ⌝ }
-{
-    if covered == 0 {
-        return 0;
-    }
-    add_on
 }

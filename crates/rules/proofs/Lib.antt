@@ -3,6 +3,7 @@ pub mod Runs
 pub mod Differences
 pub mod Ceil
 pub mod Weighted
+pub mod Kept
 pub mod Ratios
 pub mod RatioCases
 pub mod Along

@@ -1,7 +1,7 @@
 -- Laws of the weighted add-on of X at a gross G and a net N (document 01, "Weighing a set"). Assumes nothing.
 use mathlib.Core.Path.{_≡_, refl, _∙_}
 use mathlib.Core.Bool.{Bool, true, false, cond}
-use Prim.Native.Nat.{ℕ, _*_, _≤_, _<_}
+use Prim.Native.Nat.{ℕ, _+_, _*_, _≤_, _<_}
 use native.Mathlib.Nat.{le-antisymm, mul-le-mul-left, mul-le-mul-right, le-of-mul-le-mul-left}
 use native.Mathlib.Omega.{arith}
 use borrow.Author.Tests.{eqb-true, eqb-false}
@@ -49,6 +49,11 @@ pub mono-net : (x g n n′ : ℕ) → n ≤ n′ → weightedOf x g n ≤ weight
 mono-net x g n n′ h = by-gross g n (λ (w : ℕ → ℕ). w x ≤ weightedOf x g n′)
     (λ z. omega (arith, weighted-none x g n′ z))
     (λ p. rw (weighted-some x g n′ (λ z. omega arith)) (ceil-mono _ _ _ (omega arith) (mul-le-mul-left x (omega arith))))
+
+-- and it grows by no more than X grows
+pub grows-less : (x y g n : ℕ) → n ≤ g → weightedOf (x + y) g n ≤ weightedOf x g n + y
+grows-less x y g n h = by-gross g n (λ (w : ℕ → ℕ). w (x + y) ≤ w x + y) (λ z. omega arith)
+    (λ p. let kept : parts g n ≤ 5 * g = omega arith in ceil-least _ _ _ (omega arith) (omega (arith, ceil-enough (x * parts g n) (5 * g) (omega arith), mul-le-mul-left y kept)))
 
 -- ---- the two ends of netting
 

@@ -7,7 +7,7 @@ use lib.Dec.{eqb, leb}
 use lib.ListN.{getD}
 use Rattle.rules.specs.declared.Bands.{Bands}
 use Rattle.rules.specs.Factors.{creditFactor, tradeFactor}
-use Rattle.rules.specs.Weighted.{weightedOf}
+use Rattle.rules.specs.Weighted.{ceil, weightedOf}
 use Rattle.rules.specs.Book.{Trade, Basket, Cover, WrittenCredit, Member, trade, written, basket, DerivativeSet, FinancingTrade, FinancingSet, total}
 
 -- ---- add-ons (annex, paragraphs 1 to 4)
@@ -47,15 +47,17 @@ writtenAddOn w =
 abbrev pub coveredOf : WrittenCredit → ℕ
 coveredOf w = total (λ (c : Cover). c .amount) (w .covers)
 
--- what stays in of a written credit's add-on, by the amount covered and the notional: nothing without cover, else all (paragraph 31)
-abbrev pub keptIn : (addOn covered notional : ℕ) → ℕ
-keptIn addOn covered notional = cond (eqb covered 0) 0 addOn
+-- what stays in of a written credit's add-on (paragraph 31; request A.6): "only the add-on times covered amount over effective notional,
+-- rounded up for each trade, and nothing at notional 0"
+unfoldable pub keptIn : (addOn covered notional : ℕ) → ℕ
+keptIn addOn covered notional = cond (eqb notional 0) 0 (ceil (addOn * covered) notional)
 
+-- "U takes the remainder"
 abbrev pub uncoveredAddOn : WrittenCredit → ℕ
 uncoveredAddOn w = writtenAddOn w - keptIn (writtenAddOn w) (coveredOf w) (w .notional)
 
 -- ---- the tally of a derivative set: "V sum of values, G sum of positive values, A sum of add-ons, U those of written trades
--- without cover". V is the gains less the losses, and G the gains.
+-- without cover", and of the others what does not stay in. V is the gains less the losses, and G the gains.
 
 pub record Tally : Type 0 where
   pub gains : ℕ

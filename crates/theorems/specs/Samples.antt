@@ -109,9 +109,9 @@ samples =
     -- Receivable 40 in one trade, payable 25 in another, same settlement day, both marked: row 13 is −25,000.
     ∷ sample (bookOf 0 0 (financingOf 0 ++ financingTradeOf 1 40 40 0 0 0 2 ++ financingTradeOf 1 0 0 25 0 0 2)) (row 13 (negℤ (pos 25000)) ∷ [])
     -- Default swap sold, 100, qualifying, close-out, premiums 3, no loss, value 0: rows 9 to 10 with 5 total 100,000 uncovered; with a
-    -- cover of 1, 102,000.
+    -- cover of 1, 99,030 (request A.6).
     ∷ sample (bookOf 0 0 (setOf 0 0 ++ soldSwap)) (sumOf (9 ∷ 10 ∷ 5 ∷ []) (pos 100000) ∷ [])
-    ∷ sample (bookOf 1 0 ((headWord 3 1 ∷ 1 ∷ 0 ∷ 100 ∷ []) ++ setOf 0 0 ++ soldSwap ++ (headWord 7 0 ∷ 1 ∷ []))) (sumOf (9 ∷ 10 ∷ 5 ∷ []) (pos 102000) ∷ [])
+    ∷ sample (bookOf 1 0 ((headWord 3 1 ∷ 1 ∷ 0 ∷ 100 ∷ []) ++ setOf 0 0 ++ soldSwap ++ (headWord 7 0 ∷ 1 ∷ []))) (sumOf (9 ∷ 10 ∷ 5 ∷ []) (pos 99030) ∷ [])
     -- Tier 1 3: exposure 100 gives 300, verdict 0; 101 gives 297, verdict 1. Tier 1 −1, exposure 3: −3,334, verdict 1.
     ∷ sample (bookOf 0 3 (assetOf 100)) (row 22 (pos 300) ∷ verdict 0 ∷ [])
     ∷ sample (bookOf 0 3 (assetOf 101)) (row 22 (pos 297) ∷ verdict 1 ∷ [])

@@ -2,37 +2,32 @@ use native.Mathlib.Omega.{arith}
 use Rattle.rules.specs.Read.{writtenAt}
 use Rattle.laws.proofs.FactorBounds.{written-add-on}
 use Rattle.derivatives.specs.Words.{writtenOf}
-use Rattle.derivatives.proofs.AddOns.{kept-under}
+use Rattle.derivatives.proofs.AddOns.{remainder-is}
 use borrow.Author.Needs.{needs}
 use Rattle.derivatives.proofs.tally.Tally.add_written.Statement.{statement}
 use Rattle.derivatives.proofs.tally.Tally.add_written.Tie as tie
 
-add-self-3 : tie.Need-add-self-3
+add-self : tie.Need-add-self
 unfolding writtenAt
-add-self-3 c =
-    let e = c .before .before .before .before .before .before .before .before .before .before .before in
-    omega (arith, (e .pre .0 .gross), (c .before .before .before .before .before .before .before .before .before .before .written-add-on .ensures), written-add-on (writtenOf (e .args .w)))
+add-self c =
+    let e = c .before .before .before .before in
+    omega (arith, (e .pre .0 .gross), (c .before .before .before .written-add-on .ensures), written-add-on (writtenOf (e .args .w)))
 
-sub-self : tie.Need-sub-self
-sub-self c = kept-under (c .before .before .before .before .before .before .before .kept-in .result) (c .before .before .before .before .before .before .before .before .before .before .written-add-on .result) (c .before .before .before .before .before .before .before .before .before .before .before .args .covered) (c .before .before .before .before .before .before .before .before .wide .result) (c .before .before .before .before .before .before .before .kept-in .ensures)
-
-add-self-4 : tie.Need-add-self-4
+kept-in-requires : tie.Need-kept-in-requires
 unfolding writtenAt
-add-self-4 c =
-    let e = c .before .before .before .before .before .before .before .before .before .before .before .before in
-    omega (arith, (e .pre .0 .uncovered), (c .before .before .before .before .before .before .before .before .before .before .before .written-add-on .ensures), written-add-on (writtenOf (e .args .w)))
-
-add-self-5 : tie.Need-add-self-5
-add-self-5 c = omega (arith, (c .before .before .before .before .before .before .before .before .before .before .before .before .before .before .before .before .pre .0 .written), (c .before .wide4 .ensures), (c .before .before .before .size2 .ensures))
+kept-in-requires c κs =
+    let most = written-add-on (writtenOf (c .before .before .before .before .before .before .before .before .before .before .before .before .before .before .args .w)) in
+    (omega (arith, (c .before .before .before .before .before .before .before .before .before .before .before .before .before .written-add-on .ensures), (c .wide4 .ensures), (c .before .before .before .before .before .before .before .before .before .before .before .before .size .ensures), most), omega (arith, (c .wide4 .ensures), (c .before .before .before .before .before .before .before .before .before .before .before .before .size .ensures)))
 
 add-self-6 : tie.Need-add-self-6
+unfolding writtenAt
 add-self-6 c =
-    let e = c .before .before .before .before .before .before .before .before .before .before .before .before .before .before .before .before .before in
-    omega (arith, (e .pre .0 .covered), (e .pre .1 .1))
+    let e = c .before .before .before .before .before .before .before .before .before .before .before .before .before .before .before .before in
+    omega (arith, (e .pre .0 .uncovered), (c .before .before .before .before .before .before .before .before .before .before .before .before .before .before .before .written-add-on .ensures), written-add-on (writtenOf (e .args .w)))
 
 returns : tie.Need-returns
 unfolding writtenAt
-returns c = simp ((c .before .before .wide4 .ensures), (c .before .before .before .size3 .ensures), (c .before .before .before .before .size2 .ensures), (c .before .before .before .before .before .before .before .before .wide3 .ensures), (c .before .before .before .before .before .before .before .before .before .loss .ensures), (c .before .before .before .before .before .before .before .before .before .before .before .wide2 .ensures), (c .before .before .before .before .before .before .before .before .before .before .before .before .gain .ensures), (c .before .before .before .before .before .before .before .before .before .before .before .before .before .kept-in .ensures), (c .before .before .before .before .before .before .before .before .before .before .before .before .before .before .wide .ensures), (c .before .before .before .before .before .before .before .before .before .before .before .before .before .before .before .size .ensures), (c .before .before .before .before .before .before .before .before .before .before .before .before .before .before .before .before .written-add-on .ensures))
+returns c = simp ((c .before .before .before .before .before .before .before .before .before .before .before .before .before .before .before .written-add-on .ensures), (c .before .before .before .before .before .before .before .before .before .before .before .before .before .before .size .ensures), (c .before .before .before .before .before .before .before .before .before .before .before .before .before .size2 .ensures), (c .before .before .before .before .before .before .before .before .before .before .before .gain .ensures), (c .before .before .before .before .before .before .before .before .before .before .wide .ensures), (c .before .before .before .before .before .before .before .before .loss .ensures), (c .before .before .before .before .before .before .before .wide2 .ensures), (c .before .before .before .before .before .wide3 .ensures), (c .before .before .wide4 .ensures), (c .before .kept-in .ensures), remainder-is)
 
 pub add-written-spec : {M : Type 1} → statement M
-add-written-spec = tie.close (tie.spec (search needs) (search needs) (search needs) (search needs) (search needs) (search needs) (search needs) (search needs) (search needs) (search needs) add-self-3 sub-self add-self-4 (search needs) (search needs) (search needs) (search needs) add-self-5 add-self-6 returns)
+add-written-spec = tie.close (tie.spec (search needs) (search needs) (search needs) (search needs) add-self (search needs) (search needs) (search needs) (search needs) (search needs) (search needs) (search needs) (search needs) (search needs) (search needs) kept-in-requires (search needs) add-self-6 returns)
