@@ -15,11 +15,11 @@ use Rattle.rules.proofs.Lists.{Pairs, or-left}
 use Rattle.cuts.proofs.Chains.{Chain, Cut}
 use Rattle.cuts.proofs.Records.{NoneOf, isCover, CoverRead, isMember, goesOn, MemberRead, FinancingTradeRead, ItemRead, ProtectionRead, writtenFaultAt, derivativeSetFaultAt}
 use Rattle.cuts.proofs.Cutting.{ItemHere, item-not-end, itemsBegin, here-made, book-cut, cut-protections}
-use Rattle.cuts.proofs.Moved.{coveredBy, movedMember, word-on, whole-moved, cover-moved, member-moved}
+use Rattle.cuts.proofs.Moved.{movedMember, word-on, whole-moved, cover-moved, member-moved}
 use Rattle.cuts.proofs.Local.{stay, follows-kind, item-kept, here-goes-not, end-goes-not}
 use Rattle.cuts.proofs.Changed.{member-no-cover, head-same, protections-same}
 use Rattle.cuts.specs.Words.{Inserted}
-use Rattle.cuts.proofs.FurtherCovers.{MoreCovers, FurtherMember, memberless, FurtherItem, FurtherPlaced, FurtherBook}
+use Rattle.cuts.specs.Further.{coveredBy, memberless, MemberByCredits, ItemByCredits, PlacedByCredits, MoreCovers, FurtherCredit, FurtherBook}
 use Rattle.cuts.proofs.SameWords.{Plain, plain-append, whole-plain, chain-plain, head-plain, same-first, From, kind-beside, shift, Shifted, whole-beside, cover-beside}
 
 -- ---- what is read of the second, and the first beside it
@@ -76,19 +76,19 @@ module _ (xs ys : List ℕ) where
   covers-beside (Chain.then c t) e i r = cover-more c (λ k q. covers-beside t e k q) i r
 
   -- a trade or a basket
-  kept-member : (n i j : ℕ) (m : Member) → MemberRead ys j m (j + suc n) → FurtherMember (movedMember (shift i j) m) m → Shifted (suc n) xs ys i j
-      → Beside xs ys (MemberRead xs) FurtherMember i m (j + suc n)
+  kept-member : (n i j : ℕ) (m : Member) → MemberRead ys j m (j + suc n) → MemberByCredits FurtherCredit (movedMember (shift i j) m) m → Shifted (suc n) xs ys i j
+      → Beside xs ys (MemberRead xs) (MemberByCredits FurtherCredit) i m (j + suc n)
   kept-member n i j m c t s =
       let a : shift i j j ≡ i = omega arith in
       let b : shift i j (j + suc n) ≡ i + suc n = omega arith in
       let d = member-moved (s .words) (λ e. rw (b, kind-beside xs ys (i + suc n) (j + suc n) (s .rest) e) e) j m (j + suc n) (omega arith) (omega arith) c in
       record { first = _; end = _; read = rw (a, b) at d; more = t; rest = s .rest }
 
-  member-beside : EachBeside xs ys (MemberRead xs) (MemberRead ys) FurtherMember
+  member-beside : EachBeside xs ys (MemberRead xs) (MemberRead ys) (MemberByCredits FurtherCredit)
   unfolding writtenAt
-  member-beside i j m next (MemberRead.of-trade w) e r = kept-member 4 i j _ (MemberRead.of-trade w) FurtherMember.of-trade (whole-beside 5 _ xs ys i j w refl r)
+  member-beside i j m next (MemberRead.of-trade w) e r = kept-member 4 i j _ (MemberRead.of-trade w) MemberByCredits.of-trade (whole-beside 5 _ xs ys i j w refl r)
   member-beside i j m next (MemberRead.of-basket w) e r =
-      kept-member (namesIn (word ys j) + 2) i j _ (MemberRead.of-basket w) FurtherMember.of-basket (whole-beside 11 _ xs ys i j w refl r)
+      kept-member (namesIn (word ys j) + 2) i j _ (MemberRead.of-basket w) MemberByCredits.of-basket (whole-beside 11 _ xs ys i j w refl r)
   member-beside i j m next (MemberRead.of-credit {covers} w cut) e r =
       let s = whole-beside 6 _ xs ys i j w refl r in
       let z : shift i j j ≡ i = omega arith in
@@ -101,27 +101,27 @@ module _ (xs ys : List ℕ) where
       let k = rw z at (whole-moved (s .words) 6 (writtenFaultAt ys j) (writtenFaultAt xs i) j (omega arith) (omega arith) (rw (x, a, b, c, d, g)) w) in
       let q = covers-beside (cut .chain) (cut .last) (i + 6) (s .rest) in
       let l : coveredBy [] (writtenAt xs i (q .first)) ≡ coveredBy [] (writtenAt ys j covers) = rw (x, a, b, c, d, g) in
-      record { first = _; end = q .end; read = MemberRead.of-credit k (q .read); more = FurtherMember.of-credit (record { alike = l; covers = q .more }); rest = q .rest }
+      record { first = _; end = q .end; read = MemberRead.of-credit k (q .read); more = MemberByCredits.of-credit (record { alike = l; covers = q .more }); rest = q .rest }
 
 -- ---- items, in words of their own
 
 -- no word of a financing trade or of a protection is of a kind in which the two books may differ
-financing-trade-plain : (ws : List ℕ) (at : ℕ) (t : FinancingTrade) (next : ℕ) → FinancingTradeRead ws at t next → Plain ws at next
+pub financing-trade-plain : (ws : List ℕ) (at : ℕ) (t : FinancingTrade) (next : ℕ) → FinancingTradeRead ws at t next → Plain ws at next
 financing-trade-plain ws at t next (FinancingTradeRead.one w) = whole-plain 9 _ ws at w refl
 
-protection-plain : (ws : List ℕ) (at : ℕ) (p : Protection) (next : ℕ) → ProtectionRead ws at p next → Plain ws at next
+pub protection-plain : (ws : List ℕ) (at : ℕ) (p : Protection) (next : ℕ) → ProtectionRead ws at p next → Plain ws at next
 protection-plain ws at p next (ProtectionRead.one w) = whole-plain 3 _ ws at w refl
 
 module _ (u v : List ℕ) where
   abbrev ItemBeside : Item → ℕ → Type 0
-  ItemBeside = Beside u v (λ (_ : ℕ). ItemRead u) FurtherItem 0
+  ItemBeside = Beside u v (λ (_ : ℕ). ItemRead u) (ItemByCredits FurtherCredit) 0
 
   -- an item that is no derivative set
   kept-item : (i : Item) (n : ℕ) → ItemRead v i n → NoneOf isCover v n → Inserted u v → Plain v 0 n → ItemBeside i n
   kept-item i n h e r p =
       let f = same-first n r p in
       let k = follows-kind stay v u n (sym (kind-beside u v n n (f .rest) e)) in
-      record { first = i; end = n; read = item-kept n v u (f .words) k i n (omega arith) h; more = FurtherItem.same; rest = f .rest }
+      record { first = i; end = n; read = item-kept n v u (f .words) k i n (omega arith) h; more = ItemByCredits.same; rest = f .rest }
 
   item-beside : (i : Item) (n : ℕ) → ItemRead v i n → NoneOf isCover v n → Inserted u v → ItemBeside i n
   unfolding derivativeSetAt
@@ -143,14 +143,14 @@ module _ (u v : List ℕ) where
         first = _;
         end = q .end;
         read = ItemRead.of-derivatives k (record { chain = q .read; last = o });
-        more = FurtherItem.of-derivatives (record { alike = l; members = q .more });
+        more = ItemByCredits.of-derivatives (record { alike = l; members = q .more });
         rest = q .rest;
       }
 
 -- ---- books
 
 -- an item where it stands
-here-beside : (xs ys : List ℕ) → EachBeside xs ys (ItemHere xs) (ItemHere ys) FurtherPlaced
+here-beside : (xs ys : List ℕ) → EachBeside xs ys (ItemHere xs) (ItemHere ys) (PlacedByCredits FurtherCredit)
 here-beside xs ys i j q next (ItemHere.here {i = b} {n} h) e r =
     let p = item-beside (drop i xs) (drop j ys) b n h (rw (getD-drop j ys n 0) e) r in
     record { first = _; end = _; read = ItemHere.here (p .read); more = p .more; rest = rw (← drop-drop (p .end) i xs, ← drop-drop n j ys) (p .rest) }

@@ -1,66 +1,34 @@
--- What is read of a book and of the same one with further covers put in: how the two are related. Assumes nothing.
+-- Books, sets and items side by side, the second with covers put in: what the relations of specs/Words and specs/Further give. Assumes nothing.
 use Prim.Native.Nat.{ℕ}
-use mathlib.Core.Path.{_≡_}
 use mathlib.Core.List.{List, [], _∷_, _++_}
-use Rattle.rules.specs.Book.{Trade, Basket, Cover, WrittenCredit, Member, trade, written, basket, DerivativeSet, Item, derivatives, Placed}
-use Rattle.rules.specs.Read.{headOf, protectionsOf, itemsOf}
+use Rattle.rules.specs.Book.{WrittenCredit, Member, Item, Placed}
 use Rattle.rules.proofs.Lists.{Pairs}
 use Rattle.cuts.specs.Words.{Inserted}
-use Rattle.cuts.proofs.Moved.{coveredBy}
+use Rattle.cuts.specs.Further.{MemberByCredits, ItemByCredits, PlacedByCredits}
 
 -- the same words before both books
-pub same-before : (ws : List ℕ) {xs ys : List ℕ} → Inserted xs ys → Inserted (ws ++ xs) (ws ++ ys)
+unfoldable pub same-before : (ws : List ℕ) {xs ys : List ℕ} → Inserted xs ys → Inserted (ws ++ xs) (ws ++ ys)
 same-before [] r = r
 same-before (a ∷ ws) r = Inserted.same (same-before ws r)
 
--- the covers of the first are among those of the second, in their order: one of both, whose places may differ, or one of the second alone
-pub data MoreCovers : List Cover → List Cover → Type 0 where
-  none : MoreCovers [] []
-  both : {c d : Cover} {cs ds : List Cover} → c .protection ≡ d .protection → c .amount ≡ d .amount → MoreCovers cs ds → MoreCovers (c ∷ cs) (d ∷ ds)
-  further : {d : Cover} {cs ds : List Cover} → MoreCovers cs ds → MoreCovers cs (d ∷ ds)
+-- where R of two credits gives S of them, the same holds of what has credits
+module _ {R S : WrittenCredit → WrittenCredit → Type 0} (f : (w v : WrittenCredit) → R w v → S w v) where
+  -- members
+  members-by : {ms ns : List Member} → Pairs (MemberByCredits R) ms ns → Pairs (MemberByCredits S) ms ns
+  members-by Pairs.none = Pairs.none
+  members-by (Pairs.more r t) = Pairs.more (member r) (members-by t)
+    where
+      member : {m n : Member} → MemberByCredits R m n → MemberByCredits S m n
+      member MemberByCredits.of-trade = MemberByCredits.of-trade
+      member (MemberByCredits.of-credit {w} {v} r) = MemberByCredits.of-credit (f w v r)
+      member MemberByCredits.of-basket = MemberByCredits.of-basket
 
--- equal but for further covers
-pub record FurtherCredit (w v : WrittenCredit) : Type 0 where
-  pub alike : coveredBy [] w ≡ coveredBy [] v
-  pub covers : MoreCovers (w .covers) (v .covers)
+  -- an item
+  item-by : {i j : Item} → ItemByCredits R i j → ItemByCredits S i j
+  item-by ItemByCredits.same = ItemByCredits.same
+  item-by (ItemByCredits.of-derivatives r) = ItemByCredits.of-derivatives (record { alike = r .alike; members = members-by (r .members) })
 
--- a trade and a basket have no covers
-pub data FurtherMember : Member → Member → Type 0 where
-  of-trade : {t : Trade} → FurtherMember (trade t) (trade t)
-  of-credit : {w v : WrittenCredit} → FurtherCredit w v → FurtherMember (written w) (written v)
-  of-basket : {b : Basket} → FurtherMember (basket b) (basket b)
-
--- a derivative set without its members
-abbrev pub memberless : DerivativeSet → DerivativeSet
-memberless s = record {
-  netting = s .netting;
-  notSegregated = s .notSegregated;
-  daily = s .daily;
-  sameCurrency = s .sameCurrency;
-  fullAmount = s .fullAmount;
-  exempt = s .exempt;
-  received = s .received;
-  paid = s .paid;
-  posted = s .posted;
-  members = [];
-}
-
--- equal but for further covers of members
-pub record FurtherSet (s t : DerivativeSet) : Type 0 where
-  pub alike : memberless s ≡ memberless t
-  pub members : Pairs FurtherMember (s .members) (t .members)
-
--- the same item, as any asset, financing set or off-balance item is; or two such sets
-pub data FurtherItem : Item → Item → Type 0 where
-  same : {i : Item} → FurtherItem i i
-  of-derivatives : {s t : DerivativeSet} → FurtherSet s t → FurtherItem (derivatives s) (derivatives t)
-
--- wherever the two stand
-abbrev pub FurtherPlaced : Placed → Placed → Type 0
-FurtherPlaced p q = FurtherItem (p .item) (q .item)
-
--- the same head, the same protections, and items side by side
-pub record FurtherBook (xs ys : List ℕ) : Type 0 where
-  pub head : headOf xs ≡ headOf ys
-  pub protections : protectionsOf xs .records ≡ protectionsOf ys .records
-  pub items : Pairs FurtherPlaced (itemsOf xs .records) (itemsOf ys .records)
+  -- all items
+  pub items-by : {ps qs : List Placed} → Pairs (PlacedByCredits R) ps qs → Pairs (PlacedByCredits S) ps qs
+  items-by Pairs.none = Pairs.none
+  items-by (Pairs.more r t) = Pairs.more (item-by r) (items-by t)

@@ -9,31 +9,15 @@ use native.Mathlib.Decide.{decLt}
 use native.Mathlib.Nat.{add-assoc}
 use lib.ListN.{length}
 use Rattle.rules.specs.Word.{word, kindOf, namesIn}
-use Rattle.rules.specs.Book.{Protection, Cover, WrittenCredit, Member, trade, written, basket}
+use Rattle.rules.specs.Book.{Protection, Cover, Member, trade, written, basket}
 use Rattle.rules.specs.Read.{lacks, protectionAt, coverAt, writtenAt, tradeAt, gradesAt, basketAt}
+use Rattle.cuts.specs.Further.{coveredBy}
 use Rattle.cuts.proofs.Amounts.{amount-kind, none-lacking, stretch-same}
 use Rattle.cuts.proofs.Chains.{Chain, Cut, chain-onward}
 use Rattle.cuts.proofs.Grammar.{Whole, amountsAt}
 use Rattle.cuts.proofs.Records.{NoneOf, isCover, CoverRead, cover-onward, MemberRead, ProtectionRead, coverFaultAt, tradeFaultAt, writtenFaultAt, basketFaultAt, protectionFaultAt}
 
 -- ---- what is read, with its places moved
-
--- a written credit with these covers
-abbrev pub coveredBy : List Cover → WrittenCredit → WrittenCredit
-coveredBy covers w = record {
-  entity = w .entity;
-  rank = w .rank;
-  qualifying = w .qualifying;
-  totalReturn = w .totalReturn;
-  closeOut = w .closeOut;
-  gain = w .gain;
-  loss = w .loss;
-  notional = w .notional;
-  lossTaken = w .lossTaken;
-  days = w .days;
-  premiums = w .premiums;
-  covers = covers;
-}
 
 module _ (move : ℕ → ℕ) where
   -- only a cover knows its place

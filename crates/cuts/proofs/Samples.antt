@@ -30,8 +30,9 @@ use Rattle.cuts.proofs.Written.{bookOf}
 use Rattle.cuts.proofs.Parts.{frontOf, partsOf, endOf, book-written}
 use Rattle.cuts.proofs.Steps.{OneOther}
 use Rattle.cuts.specs.Words.{OneAmount, Inserted}
+use Rattle.cuts.specs.Further.{MoreCovers, FurtherBook}
 use Rattle.cuts.proofs.OneAmount.{PlacedOther, amount-shape, items-other}
-use Rattle.cuts.proofs.FurtherCovers.{same-before, MoreCovers, FurtherBook}
+use Rattle.cuts.proofs.FurtherCovers.{same-before}
 use Rattle.cuts.proofs.Further.{further-covers}
 use Rattle.cuts.proofs.SampleBooks.{sampleFront, emptyFinancing, anAsset, emptySet, aTrade, aBasket, aCredit, aCover, aSet, aCommitment, bookWith, sampleItems, sample}
 

@@ -7,6 +7,7 @@ pub mod Settling
 pub mod Protections
 pub mod FactorBounds
 pub mod ExposureSum
+pub mod Filed
 pub mod Records
 pub mod MemberBounds
 pub mod ItemBounds

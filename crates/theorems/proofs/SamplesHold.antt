@@ -15,6 +15,7 @@ use Rattle.rules.specs.Filing.{recordsOutcome, admission, outcomeOf, filing}
 use Rattle.theorems.specs.Samples.{samples, AllSamples}
 use Rattle.theorems.specs.Heads.{heads, HeadCases}
 use Rattle.theorems.specs.Baskets.{baskets, refusals, BasketCases}
+use Rattle.theorems.specs.Covered.{covered, CoveredCases}
 
 pub all-samples : AllSamples
 unfolding samples gainOf lossOf runFrom cause protectionFault assetFault derivativeSetFault tradeFault writtenFault coverFault financingSetFault financingTradeFault offBalanceFault leapDays daysOf after dateIn dateOf dayOf later bandsOf headFaulty dateFaulty reportingDate headOf lacks recordThen protectionAt protectionTurn assetAt assetTurn coverAt coverTurn writtenAt writtenTurn tradeAt tradeTurn memberTurn derivativeSetAt derivativeSetTurn financingTradeAt financingTradeTurn financingMemberTurn financingSetAt financingSetTurn offBalanceAt offBalanceTurn itemOf endFault itemTurn protectionsOf itemsOf marketFactor tradeFactor conversionOf weightedOf tradeAddOn writtenAddOn keptIn tallyOf replacementOf weightedIn sumBelow cashNetted excessOf ratioOf verdictOf assetRows sumsOf rowsOf drawsFrom drawsOf drawsOver unfitFor drawFault settle recordsOutcome admission outcomeOf filing
@@ -27,3 +28,7 @@ head-cases = record { refusals = (refl, (refl, (refl, (refl, (refl, (refl, (refl
 pub basket-cases : BasketCases
 unfolding baskets refusals gainOf lossOf runFrom cause protectionFault derivativeSetFault basketFault writtenFault coverFault financingSetFault leapDays daysOf after dateIn dateOf dayOf later bandsOf headFaulty dateFaulty reportingDate headOf lacks recordThen protectionAt protectionTurn coverAt coverTurn writtenAt writtenTurn basketAt basketTurn memberTurn derivativeSetAt derivativeSetTurn financingMemberTurn financingSetAt financingSetTurn itemOf endFault itemTurn protectionsOf itemsOf weightedOf sortedDown basketAddOn writtenAddOn keptIn tallyOf replacementOf weightedIn sumBelow cashNetted excessOf ratioOf verdictOf sumsOf rowsOf drawsFrom drawsOf drawsOver unfitFor drawFault settle recordsOutcome admission outcomeOf filing
 basket-cases = record { accepted = record { accepted = refl; given-as-listed = refl }; refused = refl }
+
+pub covered-cases : CoveredCases
+unfolding covered gainOf lossOf runFrom cause protectionFault derivativeSetFault tradeFault writtenFault coverFault leapDays daysOf after dateIn dateOf dayOf later bandsOf headFaulty dateFaulty reportingDate headOf lacks recordThen protectionAt protectionTurn coverAt coverTurn writtenAt writtenTurn tradeAt tradeTurn memberTurn derivativeSetAt derivativeSetTurn itemOf endFault itemTurn protectionsOf itemsOf marketFactor tradeFactor weightedOf tradeAddOn writtenAddOn keptIn tallyOf replacementOf weightedIn sumsOf rowsOf drawsFrom drawsOf drawsOver unfitFor drawFault settle recordsOutcome admission outcomeOf filing
+covered-cases = record { accepted = refl; given-as-listed = refl }

@@ -1,4 +1,5 @@
 pub mod Samples
 pub mod Heads
 pub mod Baskets
+pub mod Covered
 pub mod Claims

@@ -35,7 +35,7 @@ abbrev pub setOf : (marks received : ℕ) → List ℕ
 setOf marks received = headWord 4 marks ∷ received ∷ 0 ∷ 0 ∷ []
 
 -- a trade with one principal payment; with bit 11 it resets
-abbrev tradeOf : (class value notional days : ℕ) → List ℕ
+abbrev pub tradeOf : (class value notional days : ℕ) → List ℕ
 tradeOf class value notional days = headWord 5 (class + 1 * 2 ^ 3) ∷ value ∷ notional ∷ days ∷ days ∷ []
 
 abbrev resettingOf : (class value notional days resetDays : ℕ) → List ℕ
