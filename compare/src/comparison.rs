@@ -1,8 +1,8 @@
 //! The library against the model, on the same books and buffers, and against
-//! itself on two desks.
+//! itself on two desks and with further covers.
 
-use crate::filing::{hexadecimal, Buffers, Counts, Lengths};
-use crate::generate::{self, more_marks, Random};
+use crate::filing::{hexadecimal, Buffers, Counts, Lengths, Pairs};
+use crate::generate::{self, further_covers, more_marks, Random};
 use crate::model::Answer;
 use crate::reached::Reached;
 use crate::{laws, library, model};
@@ -13,7 +13,6 @@ const SAME_DIRT: u64 = 1_000;
 pub fn run(books: u64, seed: u64) -> Result<(), String> {
     let mut random = Random::new(seed);
     let mut sides = Sides::new(&mut random);
-    let mut pairs = [0u64; 2];
     for count in 0..books {
         if count % SAME_DIRT == 0 {
             sides.soil(&mut random);
@@ -25,14 +24,17 @@ pub fn run(books: u64, seed: u64) -> Result<(), String> {
         if random.one_in(4) {
             let second = more_marks(&book, &mut random);
             sides.second_desk(&first, &second, lengths).map_err(at)?;
-            pairs[usize::from(first.number != 0)] += 1;
+        } else if first.number == 0 {
+            let further = sides.further_covers(&first, &book, lengths, &mut random);
+            further.map_err(at)?;
         }
     }
     println!("books {books}, seed {seed}: no difference");
     sides.counts.print();
-    println!("pairs accepted {}, refused {}", pairs[0], pairs[1]);
+    sides.pairs.print();
     sides.reached.print();
     sides.counts.complete()?;
+    sides.pairs.complete()?;
     sides.reached.complete()
 }
 
@@ -41,6 +43,7 @@ struct Sides {
     library: Buffers,
     model: Buffers,
     counts: Counts,
+    pairs: Pairs,
     reached: Reached,
 }
 
@@ -51,6 +54,7 @@ impl Sides {
             model: library.clone(),
             library,
             counts: Counts::default(),
+            pairs: Pairs::default(),
             reached: Reached::default(),
         }
     }
@@ -90,7 +94,29 @@ impl Sides {
     ) -> Result<(), String> {
         let left = self.library.clone();
         let second = self.file(book, lengths)?;
+        self.pairs.more_marks(first);
         laws::two_desks(first, &left, &second, &self.library)
             .map_err(|what| format!("two desks, {what}; second desk\n{}", hexadecimal(book)))
+    }
+
+    /// The same book with further covers where any fits, in the buffers as the
+    /// first filing leaves them.
+    fn further_covers(
+        &mut self,
+        first: &Answer,
+        book: &[u32],
+        lengths: Lengths,
+        random: &mut Random,
+    ) -> Result<(), String> {
+        let Some(further) = further_covers(book, &self.library.register, random) else {
+            return Ok(());
+        };
+        let left = self.library.clone();
+        let second = self.file(&further.book, lengths)?;
+        self.pairs.further_covers();
+        laws::further_covers(first, &left, &second, &self.library, &further.drawn).map_err(|what| {
+            let words = hexadecimal(&further.book);
+            format!("further covers, {what}; with them\n{words}")
+        })
     }
 }

@@ -125,6 +125,48 @@ impl Counts {
     }
 }
 
+/// How many pairs of filings were held against each other.
+#[derive(Default)]
+pub struct Pairs {
+    accepted_marks: u64,
+    refused_marks: u64,
+    further_covers: u64,
+}
+
+impl Pairs {
+    /// A book and the same with more marks, which is accepted or refused alike.
+    pub fn more_marks(&mut self, first: &Answer) {
+        match first.number {
+            0 => self.accepted_marks += 1,
+            _ => self.refused_marks += 1,
+        }
+    }
+
+    pub fn further_covers(&mut self) {
+        self.further_covers += 1;
+    }
+
+    pub fn print(&self) {
+        let [accepted, refused] = [self.accepted_marks, self.refused_marks];
+        println!("pairs with more marks: accepted {accepted}, refused {refused}");
+        println!("pairs with further covers: {}", self.further_covers);
+    }
+
+    /// That pairs of each sort came.
+    pub fn complete(&self) -> Result<(), String> {
+        for (count, sort) in [
+            (self.accepted_marks, "accepted pair with more marks"),
+            (self.refused_marks, "refused pair with more marks"),
+            (self.further_covers, "pair with further covers"),
+        ] {
+            if count == 0 {
+                return Err(format!("no {sort} came"));
+            }
+        }
+        Ok(())
+    }
+}
+
 /// A book as hexadecimal words, for the reader of a failure.
 pub fn hexadecimal(book: &[u32]) -> String {
     const SHOWN: usize = 20_000;

@@ -1,5 +1,7 @@
-//! Seeded books: valid ones, damaged ones, and pairs for the two desks.
+//! Seeded books: valid ones, damaged ones, and the second ones of pairs, with
+//! more marks or with further covers.
 
+mod covers;
 mod damage;
 mod dates;
 mod marks;
@@ -8,6 +10,7 @@ mod random;
 mod tests;
 mod valid;
 
+pub use covers::further_covers;
 pub use marks::more_marks;
 pub use random::Random;
 

@@ -1,4 +1,5 @@
-//! What holds of every filing, and of two filings on two desks.
+//! What holds of every filing, of two filings on two desks, and of two where the
+//! second book has further covers.
 
 use crate::filing::{Buffers, Lengths};
 use crate::model::{Answer, Entry, FIRST_RECORD, ROWS};
@@ -97,11 +98,65 @@ pub fn two_desks(
     }
     let (fewer, more) = (&first_side.rows, &second_side.rows);
     ensure(more[20] <= fewer[20], "a higher row 21")?;
+    no_worse(first, fewer, second, more)?;
+    sums(more)
+}
+
+/// What follows for verdict and ratio from an exposure that is not higher.
+fn no_worse(first: &Answer, before: &[i64], second: &Answer, after: &[i64]) -> Result<(), String> {
     if first.verdict == 0 {
         ensure(second.verdict != 1, "verdict 0 lost")?;
     }
-    if fewer[19] >= 0 && more[20] > 0 {
-        ensure(more[21] >= fewer[21], "a lower row 22")?;
+    if before[19] >= 0 && after[20] > 0 {
+        ensure(after[21] >= before[21], "a lower row 22")?;
     }
-    sums(more)
+    Ok(())
+}
+
+/// Rows that no cover enters, counted from 1. It enters 8 and 10, and through
+/// them 11, 21 and 22.
+const WITHOUT_COVERS: [usize; 17] = [1, 2, 3, 4, 5, 6, 7, 9, 12, 13, 14, 15, 16, 17, 18, 19, 20];
+
+/// A unit of further cover takes 1,000 thousandths off the exposure and brings
+/// back at most 100, since no add-on is above 100 for a unit of its notional.
+const LEAST_FALL: i64 = 900;
+const MOST_FALL: i64 = 1_000;
+
+/// A book and the same with further covers, both accepted, where these take so
+/// much from each protection.
+pub fn further_covers(
+    first: &Answer,
+    first_side: &Buffers,
+    second: &Answer,
+    second_side: &Buffers,
+    drawn: &[u32],
+) -> Result<(), String> {
+    let ours = (first.number, first.place);
+    ensure(ours == (second.number, second.place), "another answer")?;
+    let (before, after) = (&first_side.rows, &second_side.rows);
+    let changed = |row: &&usize| before[**row - 1] != after[**row - 1];
+    if let Some(row) = WITHOUT_COVERS.iter().find(changed) {
+        return Err(format!("another row {row}"));
+    }
+    ensure(before[ROWS..] == after[ROWS..], "rows behind the last stay")?;
+    sums(after)?;
+    let units: i64 = drawn.iter().copied().map(i64::from).sum();
+    let fall = before[20] - after[20];
+    ensure(fall >= LEAST_FALL * units, "row 21 falls by too little")?;
+    ensure(fall <= MOST_FALL * units, "row 21 falls by too much")?;
+    no_worse(first, before, second, after)?;
+    drawn_down(&first_side.register, &second_side.register, drawn)
+}
+
+/// Each entry has less left by just what was drawn from it.
+fn drawn_down(before: &[Entry], after: &[Entry], drawn: &[u32]) -> Result<(), String> {
+    let mut expected = before.to_vec();
+    for (entry, units) in expected.iter_mut().zip(drawn) {
+        entry.left -= units;
+    }
+    let mut pairs = expected.iter().zip(after);
+    match pairs.position(|(expected, entry)| expected != entry) {
+        None => Ok(()),
+        Some(place) => Err(format!("another entry {place}")),
+    }
 }

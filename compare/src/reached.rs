@@ -6,6 +6,7 @@ mod bands;
 mod baskets;
 mod covers;
 mod heads;
+mod kept;
 mod refused_baskets;
 
 use std::collections::BTreeMap;
@@ -105,6 +106,7 @@ impl Reached {
             self.neighbours(&pair[0], &pair[1]);
         }
         self.covers(&records);
+        self.kept_parts(&records);
         self.baskets(&records);
     }
 
@@ -208,6 +210,7 @@ fn uses() -> Vec<Feature> {
         list.push(("same day, marks of two financing trades", numbers));
     }
     list.extend(covers::list());
+    list.extend(kept::list());
     list.extend(baskets::list());
     list
 }

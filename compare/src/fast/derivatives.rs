@@ -34,6 +34,14 @@ impl Tally {
         self.value += value;
         self.positive += value.max(0) as u64;
     }
+
+    #[inline(always)]
+    fn join(&mut self, run: &Tally) {
+        self.value += run.value;
+        self.positive += run.positive;
+        self.add_on += run.add_on;
+        self.uncovered += run.uncovered;
+    }
 }
 
 pub fn derivative_set(
@@ -56,7 +64,11 @@ pub fn derivative_set(
                 trade(book, place, word, bands, &mut tally)?;
                 place += 5;
             }
-            6 => place = written_credit(book, place, word, register, &mut tally, sums)?,
+            6 => {
+                let (next, run) = written_credits(book, place, register, sums)?;
+                tally.join(&run);
+                place = next;
+            }
             11 => {
                 let (value, add_on) = basket(book, place, word)?;
                 tally.value(value);
@@ -131,6 +143,22 @@ fn trade(book: &[u32], place: usize, word: u32, bands: Bands, tally: &mut Tally)
     Ok(())
 }
 
+/// A run of written credits with their covers; returns where it ends. In a call
+/// of its own it leaves the loop over trades the registers that it needs.
+#[inline(never)]
+fn written_credits(
+    book: &[u32],
+    mut place: usize,
+    register: &mut [Entry],
+    sums: &mut Sums,
+) -> Outcome<(usize, Tally)> {
+    let mut tally = Tally::default();
+    while let Some(word) = of_kind(book, place, 6) {
+        place = written_credit(book, place, word, register, &mut tally, sums)?;
+    }
+    Ok((place, tally))
+}
+
 #[inline(always)]
 fn written_credit(
     book: &[u32],
@@ -145,21 +173,33 @@ fn written_credit(
     let plain = value != SIGN && (notional | loss | premiums) < SIGN && days <= 0xFFFF;
     check(plain, 8, place)?;
     check(loss <= notional, 9, place)?;
-    let factor = if word & 1 << 20 != 0 { 50 } else { 100 };
-    let cap = if word & 1 << 22 != 0 {
-        1000 * u64::from(premiums)
-    } else {
-        0
-    };
-    let full = factor * u64::from(notional);
-    let total_return = word & 1 << 21 != 0;
-    let add_on = if total_return { full } else { full.min(cap) };
+    let add_on = written_add_on(word, notional, premiums);
+    tally.value(signed(value));
+    tally.add_on += add_on;
+    sums.written += u64::from(notional - loss);
+    place += 6;
+    if of_kind(book, place, 7).is_none() {
+        tally.uncovered += add_on;
+        return Ok(place);
+    }
+    let (next, uncovered) = covers(book, place, [word, notional, loss, days], register)?;
+    tally.uncovered += left_out(add_on, uncovered, notional);
+    sums.covered += u64::from(notional - uncovered);
+    Ok(next)
+}
 
+/// The covers of a written credit; returns where they end and what they leave of
+/// its notional, the loss included.
+#[inline(always)]
+fn covers(
+    book: &[u32],
+    mut place: usize,
+    [word, notional, loss, days]: [u32; 4],
+    register: &mut [Entry],
+) -> Outcome<(usize, u32)> {
     let entity = word & 0xFFFF;
     let rank = word >> 16 & 0xF;
-    let written = notional - loss;
-    let mut open = written;
-    place += 6;
+    let mut uncovered = notional;
     while let Some(cover) = of_kind(book, place, 7) {
         let &[amount] = amounts(book, place)?;
         check(cover & 0x0FFF_F000 == 0, 7, place)?;
@@ -169,18 +209,42 @@ fn written_credit(
         };
         let fit = entry.entity == entity && entry.rank >= rank && entry.days >= days;
         check(fit, 12, place)?;
-        check(amount <= entry.left && amount <= open, 13, place)?;
+        let within = amount <= entry.left && amount + loss <= uncovered;
+        check(within, 13, place)?;
         entry.left -= amount;
-        open -= amount;
+        uncovered -= amount;
         place += 2;
     }
+    Ok((place, uncovered))
+}
 
-    tally.value(signed(value));
-    tally.add_on += add_on;
-    if open == written {
-        tally.uncovered += add_on;
+#[inline(always)]
+fn written_add_on(word: u32, notional: u32, premiums: u32) -> u64 {
+    let factor = if word & 1 << 20 != 0 { 50 } else { 100 };
+    let cap = if word & 1 << 22 != 0 {
+        1000 * u64::from(premiums)
+    } else {
+        0
+    };
+    let full = factor * u64::from(notional);
+    let total_return = word & 1 << 21 != 0;
+    if total_return {
+        full
+    } else {
+        full.min(cap)
     }
-    sums.written += u64::from(written);
-    sums.covered += u64::from(written - open);
-    Ok(place)
+}
+
+/// The part of an add-on for what the covers leave of the notional. What they
+/// keep in is rounded up, so this is rounded down.
+///
+/// Compilers for x86 divide 64 bits behind a branch on whether 32 are enough, and
+/// that is as good as random where add-ons of 0 stand among others. With 2^32
+/// notionals more to divide they never are. Add-ons are below 2^34 and notionals
+/// below 2^27, so that nothing overflows.
+#[inline(always)]
+fn left_out(add_on: u64, uncovered: u32, notional: u32) -> u64 {
+    const MORE: u64 = 1 << 32;
+    let notional = u64::from(notional);
+    (add_on * u64::from(uncovered) + MORE * notional) / notional - MORE
 }

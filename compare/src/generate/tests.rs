@@ -1,5 +1,7 @@
 //! That the books are what they are meant to be, and reach what they should.
 
+mod covers;
+
 use std::collections::BTreeMap;
 
 use super::{book, more_marks, valid, Random};

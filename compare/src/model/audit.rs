@@ -161,8 +161,8 @@ impl<'a> Audit<'a> {
         Ok(())
     }
 
-    /// Reads the covers behind a written credit; true if there is any.
-    fn covers(&mut self, credit: &WrittenCredit) -> Result<bool, Refusal> {
+    /// Reads the covers behind a written credit and returns their sum.
+    fn covers(&mut self, credit: &WrittenCredit) -> Result<i64, Refusal> {
         let whole = credit.notional - credit.loss;
         let mut open = whole;
         while self.next_kind() == Some(kinds::COVER) {
@@ -181,8 +181,7 @@ impl<'a> Audit<'a> {
             open -= cover.amount;
             self.template.cover(cover.amount);
         }
-        // A cover is at least 1, so any cover leaves less open.
-        Ok(open < whole)
+        Ok(whole - open)
     }
 
     fn financing_set(&mut self) -> Result<(), Refusal> {

@@ -3,6 +3,7 @@
 mod bands;
 mod baskets;
 mod calendar;
+mod covers;
 mod refusals;
 mod samples;
 

@@ -24,13 +24,13 @@ impl DerivativeTally {
         self.add_on += basket_add_on(basket);
     }
 
-    pub fn written(&mut self, credit: &WrittenCredit, covered: bool) {
+    /// The covered amount is the sum of all covers of the credit, so that what
+    /// they keep in is rounded once.
+    pub fn written(&mut self, credit: &WrittenCredit, covered: i64) {
         self.value(credit.value);
         let add_on = written_add_on(credit);
         self.add_on += add_on;
-        if !covered {
-            self.uncovered_add_on += add_on;
-        }
+        self.uncovered_add_on += add_on - add_on_kept_in(add_on, covered, credit.notional);
     }
 
     fn value(&mut self, value: i64) {
@@ -75,12 +75,22 @@ impl DerivativeTally {
     }
 }
 
+/// Covers keep a written credit's add-on in, in proportion to its effective
+/// notional, whatever loss was taken of that, and rounded up.
+fn add_on_kept_in(add_on: i64, covered: i64, notional: i64) -> i64 {
+    if notional == 0 {
+        return 0;
+    }
+    // An add-on is at most 100 notionals, so that the product is below 2^61.
+    (add_on * covered + notional - 1) / notional
+}
+
 pub struct WeighedDerivatives {
     /// In units.
     pub replacement: i64,
     /// Weighted add-on of the whole set, in thousandths.
     pub add_on: i64,
-    /// Weighted add-on without the written credits that have no cover.
+    /// Weighted add-on without what written credits leave uncovered.
     pub kept_add_on: i64,
 }
 

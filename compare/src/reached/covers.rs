@@ -27,6 +27,12 @@ pub fn list() -> Vec<Feature> {
     list
 }
 
+/// The covers of the written credit at this index.
+pub fn covers_of<'a, 'b>(records: &'b [Record<'a>], index: usize) -> Vec<&'b Record<'a>> {
+    let behind = records[index + 1..].iter();
+    behind.take_while(|next| next.kind == 7).collect()
+}
+
 impl Reached {
     pub(super) fn covers(&mut self, records: &[Record]) {
         let protections: Vec<&Record> = records.iter().filter(|r| r.kind == 3).collect();
@@ -42,8 +48,7 @@ impl Reached {
                     in_set = [false; 2];
                 }
                 6 => {
-                    let behind = records[index + 1..].iter();
-                    let covers: Vec<&Record> = behind.take_while(|next| next.kind == 7).collect();
+                    let covers = covers_of(records, index);
                     in_set[usize::from(covers.is_empty())] = true;
                     let both = in_set == [true; 2];
                     self.pattern(both, "covered and uncovered credits in one set");

@@ -45,7 +45,8 @@ fn worked_books_are_those_of_the_page() {
     let worked = words(include_str!("../../books/worked.txt")).unwrap();
     let mut rows = [0; ROWS];
     file(&worked, &mut rows, &mut [Entry::default()]);
-    assert_eq!([rows[4], rows[20], rows[21]], [8_320, 111_320, 1_077]);
+    let shown = [5, 10, 21, 22].map(|row| rows[row - 1]);
+    assert_eq!(shown, [8_320, -9_766, 109_554, 1_095]);
     assert_eq!(page, [printed.unwrap(), worked]);
 }
 

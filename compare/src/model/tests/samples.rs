@@ -116,7 +116,7 @@ fn agent_with_further_exposure() {
 }
 
 #[test]
-fn covers_are_no_recognition_marks() {
+fn sold_swap_with_a_cover() {
     let sold = |book: Book| {
         book.add(3, 0, &[5, 0, 0]).add(4, 0, &[0, 0, 0]).add(
             6,
@@ -127,7 +127,8 @@ fn covers_are_no_recognition_marks() {
     let total = |rows: Rows| rows.row(5) + rows.row(9) + rows.row(10);
     assert_eq!(total(sold(Book::new(1, 0)).rows()), 100_000);
     let covered = sold(Book::new(1, 0)).add(7, 0, &[1]);
-    assert_eq!(total(covered.rows()), 102_000);
+    // Of the add-on 3,000 · 1 / 100 = 30 stay in: 30 + 100,000 − 1,000.
+    assert_eq!(total(covered.rows()), 99_030);
 }
 
 #[test]
