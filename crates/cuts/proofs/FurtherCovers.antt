@@ -2,7 +2,7 @@
 use Prim.Native.Nat.{ℕ}
 use mathlib.Core.List.{List, [], _∷_, _++_}
 use Rattle.rules.specs.Book.{WrittenCredit, Member, Item, Placed}
-use Rattle.rules.proofs.Lists.{Pairs}
+use Rattle.rules.proofs.Lists.{Pairs, pairs-by}
 use Rattle.cuts.specs.Words.{Inserted}
 use Rattle.cuts.specs.Further.{MemberByCredits, ItemByCredits, PlacedByCredits}
 
@@ -13,22 +13,14 @@ same-before (a ∷ ws) r = Inserted.same (same-before ws r)
 
 -- where R of two credits gives S of them, the same holds of what has credits
 module _ {R S : WrittenCredit → WrittenCredit → Type 0} (f : (w v : WrittenCredit) → R w v → S w v) where
-  -- members
-  members-by : {ms ns : List Member} → Pairs (MemberByCredits R) ms ns → Pairs (MemberByCredits S) ms ns
-  members-by Pairs.none = Pairs.none
-  members-by (Pairs.more r t) = Pairs.more (member r) (members-by t)
-    where
-      member : {m n : Member} → MemberByCredits R m n → MemberByCredits S m n
-      member MemberByCredits.of-trade = MemberByCredits.of-trade
-      member (MemberByCredits.of-credit {w} {v} r) = MemberByCredits.of-credit (f w v r)
-      member MemberByCredits.of-basket = MemberByCredits.of-basket
+  member-by : (m n : Member) → MemberByCredits R m n → MemberByCredits S m n
+  member-by m n MemberByCredits.of-trade = MemberByCredits.of-trade
+  member-by m n (MemberByCredits.of-credit {w} {v} r) = MemberByCredits.of-credit (f w v r)
+  member-by m n MemberByCredits.of-basket = MemberByCredits.of-basket
 
-  -- an item
-  item-by : {i j : Item} → ItemByCredits R i j → ItemByCredits S i j
-  item-by ItemByCredits.same = ItemByCredits.same
-  item-by (ItemByCredits.of-derivatives r) = ItemByCredits.of-derivatives (record { alike = r .alike; members = members-by (r .members) })
+  item-by : (i j : Item) → ItemByCredits R i j → ItemByCredits S i j
+  item-by i j ItemByCredits.same = ItemByCredits.same
+  item-by i j (ItemByCredits.of-derivatives r) = ItemByCredits.of-derivatives (record { alike = r .alike; members = pairs-by member-by (r .members) })
 
-  -- all items
   pub items-by : {ps qs : List Placed} → Pairs (PlacedByCredits R) ps qs → Pairs (PlacedByCredits S) ps qs
-  items-by Pairs.none = Pairs.none
-  items-by (Pairs.more r t) = Pairs.more (item-by r) (items-by t)
+  items-by = pairs-by (λ (p q : Placed). item-by (p .item) (q .item))

@@ -78,6 +78,11 @@ module _ {A : Type 0} where
   pairs-total f g h none = omega arith
   pairs-total f g h (more {a} {b} r t) = omega (arith, h a b r, pairs-total f g h t)
 
+  -- lists that are related one by one are so by whatever follows from it
+  pub pairs-by : {R S : A → A → Type 0} → ((a b : A) → R a b → S a b) → {xs ys : List A} → Pairs R xs ys → Pairs S xs ys
+  pairs-by f none = none
+  pairs-by f (more {a} {b} r t) = more (f a b r) (pairs-by f t)
+
   pub pairs-eq : {xs ys : List A} → Pairs (λ (a b : A). a ≡ b) xs ys → xs ≡ ys
   pairs-eq none = refl
   pairs-eq (more e t) = let r = pairs-eq t in cc
