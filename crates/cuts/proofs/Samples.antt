@@ -272,7 +272,7 @@ members-later =
         let b : 10 + (i - 9) ≡ suc i = omega arith in
         ap (word tradeFirst) (sym a) ∙ sym (getD-drop 9 tradeFirst (i - 9) 0) ∙ getD-drop 10 creditFirst (i - 9) 0 ∙ ap (word creditFirst) b
 
--- fewer covers are no further covers, nor are others
+-- fewer covers are no further covers, nor are those of another amount or of another protection
 abbrev coverOf : ℕ → Cover
 coverOf amount = record { at = 0; protection = 0; amount = amount }
 
@@ -281,3 +281,6 @@ not-fewer (MoreCovers.both p a r) = omega arith
 
 pub not-others : MoreCovers (coverOf 10 ∷ []) (coverOf 20 ∷ []) → ⊥
 not-others (MoreCovers.both p a r) = omega arith
+
+pub not-by-another : MoreCovers (coverOf 10 ∷ []) (record { at = 0; protection = 1; amount = 10 } ∷ []) → ⊥
+not-by-another (MoreCovers.both p a r) = omega arith

@@ -19,6 +19,6 @@ bounded-is true closeOut product premiums = refl
 bounded-is false true product premiums = refl
 bounded-is false false product premiums = min-zero product
 
--- nothing is left of what stays in whole
+-- cut at 0, a difference is the same by the lesser of the two
 pub remainder-is : (addOn kept : ℕ) → addOn - min addOn kept ≡ addOn - kept
 remainder-is addOn kept = omega arith

@@ -1,5 +1,5 @@
 -- Pairs of books, the second with covers put in, by computation: one falls by 900 for each unit and one by 1,000, so that neither bound can be
--- improved, and one whose set is netted lies between. The law is applied to each, which shows that its premises can be met. Assumes nothing.
+-- improved, and one whose set is netted lies between. The law holds of each, and is applied to the last: its premises can be met. Assumes nothing.
 use Prim.Native.Nat.{ℕ, _+_, _-_, _*_, _^_, _≤_}
 use mathlib.Core.Path.{_≡_, refl}
 use mathlib.Core.Bool.{true, false}
@@ -115,6 +115,13 @@ computed = record {
   by-900 = record { first-accepted = refl; second-accepted = refl; first-row = refl; second-row = refl; exactly = refl };
   between = record { first-accepted = refl; second-accepted = refl; first-row = refl; second-row = refl; exactly = refl };
 }
+
+-- the pair that falls by 900 may fall by no thousandth less, and that by 1,000 by none more: so the claim cannot be made weaker either
+falls-no-less : Falls 99999 93700 7 → ⊥
+falls-no-less f = omega (arith, f .at-least)
+
+falls-no-more : Falls 90001 85000 5 → ⊥
+falls-no-more f = omega (arith, f .at-most)
 
 -- the law says so of each
 less-exposed : {xs ys : List ℕ} (r : Inserted xs ys) {before after each : ℕ} → Attains r before after each

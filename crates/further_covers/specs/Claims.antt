@@ -14,8 +14,7 @@ use Rattle.rules.specs.Rows.{ofDerivatives, sumOver}
 use Rattle.rules.specs.Filing.{Filing, filing}
 use Rattle.rules.specs.TwoDesks.{exposureIn}
 use Rattle.rules.proofs.Lists.{Every, Pairs}
-use Rattle.laws.specs.Exposure.{exposureOf}
-use Rattle.laws.proofs.Settling.{CoversWithin}
+use Rattle.laws.specs.Exposure.{CoversWithin, exposureOf}
 use Rattle.cuts.specs.Words.{Inserted}
 use Rattle.cuts.specs.Further.{coveredBy, PlacedByCredits}
 
@@ -27,7 +26,7 @@ pub record Falls (before after units : ℕ) : Type 0 where
   pub at-least : after + 900 * units ≤ before
   pub at-most : before ≤ after + 1000 * units
 
--- with no fewer units of cover, for each unit more
+-- from so many units of cover to no fewer: it falls for each unit more
 pub record FallsWith (before after covered covered′ : ℕ) : Type 0 where
   pub more : covered ≤ covered′
   pub falls : Falls before after (covered′ - covered)
@@ -46,7 +45,7 @@ coverIn = ofDerivatives (λ (s : DerivativeSet). total coversIn (s .members))
 abbrev pub coverOver : List Placed → ℕ
 coverOver = sumOver coverIn
 
--- the covers of each set are within its written notional less loss, as in every accepted book
+-- the covers of each set are within, as in every accepted book
 abbrev pub AllWithin : List Placed → Type 0
 AllWithin = Every (λ (q : Placed). CoversWithin (q .item))
 
@@ -70,8 +69,8 @@ putIn (Inserted.ends k l) = 0
 abbrev pub coverRead : List ℕ → ℕ
 coverRead ws = coverOver (itemsOf ws .records)
 
--- row 21 of two filings: "the second never has the larger exposure"; and sharper, neither is negative, and the second is the lower for each unit
--- put in, which are the units more that are read
+-- row 21 of two filings: "the second never has the larger exposure"; and sharper, neither is negative, and it falls for each unit put in, of
+-- which as many more are read in the second book
 pub record LessExposed (xs ys : List ℕ) (units : ℕ) (a b : Filing) : Type 0 where
   pub no-larger : exposureIn b ≤ℤ exposureIn a
   pub before : ℕ

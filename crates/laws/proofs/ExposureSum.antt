@@ -18,10 +18,10 @@ use Rattle.rules.proofs.Lists.{Every, total-le}
 use Rattle.rules.proofs.Lists
 use Rattle.rules.proofs.Weighted.{mono-x}
 use Rattle.rules.proofs.Differences.{Difference, of-pos, of-minus, as-difference, same, plus}
-use Rattle.laws.specs.Exposure.{exposureOf, ExposureIsSum}
+use Rattle.laws.specs.Exposure.{CoversWithin, exposureOf, ExposureIsSum}
 use Rattle.laws.proofs.Accepted.{accepted-is}
 use Rattle.laws.proofs.Valid.{ValidTrade, ValidItem, ValidPlaced, valid-items}
-use Rattle.laws.proofs.Settling.{CoversWithin, all-within, book-within}
+use Rattle.laws.proofs.Settling.{all-within, book-within}
 use Rattle.laws.proofs.Financing.{netted-at-most}
 use Rattle.laws.proofs.FactorBounds.{conversion-at-most}
 

@@ -14,9 +14,9 @@ use Rattle.rules.specs.Filing.{Outcome, numberOf, outcomeOf, filingOf, filing}
 use Rattle.rules.specs.TwoDesks.{exposureIn}
 use Rattle.rules.proofs.Lists.{Every}
 use Rattle.laws.specs.ReadAs.{ReadAs}
-use Rattle.laws.specs.Exposure.{exposureOf}
+use Rattle.laws.specs.Exposure.{CoversWithin, exposureOf}
 use Rattle.laws.proofs.Accepted.{accepted-is, Numbered, numbered}
-use Rattle.laws.proofs.Settling.{CoversWithin, all-within, book-within}
+use Rattle.laws.proofs.Settling.{all-within, book-within}
 use Rattle.laws.proofs.ExposureSum.{exposure-is-sum}
 
 -- a book, filed with these buffers, that is read as these items

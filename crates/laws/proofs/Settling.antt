@@ -14,6 +14,7 @@ use Rattle.rules.specs.Weigh.{writtenIn, coversIn}
 use Rattle.rules.specs.Register.{blank, drawsFrom, drawsOf, drawsIn, drawsOver, unfitFor, drawFault, drawn, settled, ifFit, settle}
 use Rattle.rules.proofs.Lists.{Every, or-left, or-right}
 use Rattle.rules.proofs.Lists
+use Rattle.laws.specs.Exposure.{CoversWithin}
 use Rattle.laws.proofs.Valid.{cause-none}
 use Rattle.laws.proofs.Each.{every-first, every-append}
 
@@ -80,13 +81,6 @@ members-within begin (written w ∷ ms) e =
     let parts = every-append (drawsFrom begin room w (w .covers)) (drawsOf begin ms) .0 e in
     omega (arith, rooms begin room w (w .covers) .0 (parts .0), members-within begin ms (parts .1))
 members-within begin (basket b ∷ ms) e = omega (arith, members-within begin ms e)
-
--- a set's covers are within its written notional less loss
-abbrev pub CoversWithin : Item → Type 0
-CoversWithin (asset a) = Unit {0}
-CoversWithin (derivatives s) = total coversIn (s .members) ≤ total writtenIn (s .members)
-CoversWithin (financing s) = Unit {0}
-CoversWithin (offBalance o) = Unit {0}
 
 item-within : (begin : ℕ) (i : Item) → Every Within (drawsIn begin i) → CoversWithin i
 item-within begin (asset a) e = tt

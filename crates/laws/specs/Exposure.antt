@@ -1,5 +1,5 @@
 -- What an item adds to row 21, in thousandths of the unit, written by what stays of it; and row 21 as their sum. Assumes nothing.
-use Prim.Native.Nat.{ℕ, _+_, _-_, _*_}
+use Prim.Native.Nat.{ℕ, _+_, _-_, _*_, _≤_}
 use mathlib.Core.Bool.{cond}
 use mathlib.Core.Path.{_≡_}
 use mathlib.Core.List.{List}
@@ -21,6 +21,13 @@ derivativeExposure bands s =
     + 1000 * s .posted
     + cond (marginOffsets s) 0 (1000 * s .paid)
     + 1000 * (total writtenIn (s .members) - total coversIn (s .members))
+
+-- the covers of a set are within its written notional less loss, as in every accepted book
+abbrev pub CoversWithin : Item → Type 0
+CoversWithin (asset a) = Unit {0}
+CoversWithin (derivatives s) = total coversIn (s .members) ≤ total writtenIn (s .members)
+CoversWithin (financing s) = Unit {0}
+CoversWithin (offBalance o) = Unit {0}
 
 -- gross assets less securities and cash netted; E*; and all value lent where the agent is exposed further
 abbrev pub financingExposure : FinancingSet → ℕ

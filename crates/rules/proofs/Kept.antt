@@ -49,10 +49,10 @@ module _ (addOn notional : ℕ) where
   -- ---- its bounds
 
   -- within the notional, no more than the whole
-  pub kept-at-most : (covered : ℕ) → covered ≤ notional → keptIn addOn covered notional ≤ addOn
-  kept-at-most covered h = by-notional (λ (k : ℕ → ℕ). k covered ≤ addOn) (λ z. omega arith) (λ p. ceil-least _ _ addOn p (mul-le-mul-left addOn h))
+  pub kept-within : (covered : ℕ) → covered ≤ notional → keptIn addOn covered notional ≤ addOn
+  kept-within covered h = by-notional (λ (k : ℕ → ℕ). k covered ≤ addOn) (λ z. omega arith) (λ p. ceil-least _ _ addOn p (mul-le-mul-left addOn h))
 
   -- from the notional on, no less
-  pub kept-at-least : (rate covered : ℕ) → addOn ≤ rate * notional → notional ≤ covered → addOn ≤ keptIn addOn covered notional
-  kept-at-least rate covered h l = by-notional (λ (k : ℕ → ℕ). addOn ≤ k covered) (λ z. omega (arith, rw z at h))
+  pub kept-beyond : (rate covered : ℕ) → addOn ≤ rate * notional → notional ≤ covered → addOn ≤ keptIn addOn covered notional
+  kept-beyond rate covered h l = by-notional (λ (k : ℕ → ℕ). addOn ≤ k covered) (λ z. omega (arith, rw z at h))
       (λ p. le-of-mul-le-mul-right (omega (arith, ceil-enough (addOn * covered) notional p, mul-le-mul-left addOn l)) p)

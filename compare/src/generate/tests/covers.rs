@@ -61,13 +61,17 @@ fn credit(marks: u32, [notional, loss, days]: [u32; 3], cover: u32) -> Vec<u32> 
     book
 }
 
-/// Whether any further cover fits, however often it is tried.
+/// Whether any further cover fits, however often it is tried; with those that do
+/// the book is accepted.
 fn fits(mut book: Vec<u32>) -> bool {
     book.push(word(15, 0));
     correct_count(&mut book);
     let register = filed(&book);
     let mut random = Random::new(16);
-    let mut tried = || further_covers(&book, &register, &mut random).is_some();
+    let mut tried = || {
+        let further = further_covers(&book, &register, &mut random);
+        further.map(|further| filed(&further.book)).is_some()
+    };
     let first = tried();
     assert!((0..20).all(|_| tried() == first));
     first
@@ -94,6 +98,49 @@ fn further_covers_come_where_they_fit() {
         let book = credit(marks, amounts, cover);
         assert_eq!(fits(book), expected, "{marks:X} {amounts:?} {cover}");
     }
+}
+
+#[test]
+fn further_covers_come_anywhere() {
+    // Two credits, of which the first has a cover of 5.
+    let same = 5 | 2 << 16;
+    let mut book = credit(same, [20, 0, 400], 5);
+    book.extend([word(6, same), 0, 20, 0, 400, 0, word(15, 0)]);
+    correct_count(&mut book);
+    let register = filed(&book);
+    let mut random = Random::new(17);
+    let mut came = [0; 7];
+    for _ in 0..1_000 {
+        let further = further_covers(&book, &register, &mut random).unwrap();
+        let [first, second] = covers_of_two(&further.book);
+        let seen = [
+            first.len() == 1,
+            second.is_empty(),
+            first.len() > 1 && !second.is_empty(),
+            first.len() == 4,
+            first[0] != 5,
+            first.last() != Some(&5),
+            first.iter().sum::<u32>() == 20,
+        ];
+        for (count, seen) in came.iter_mut().zip(seen) {
+            *count += u32::from(seen);
+        }
+    }
+    assert!(came.iter().all(|&count| count > 10), "{came:?}");
+}
+
+/// The amounts of the covers of two credits.
+fn covers_of_two(book: &[u32]) -> [Vec<u32>; 2] {
+    let mut credits = 0;
+    let mut covers = [Vec::new(), Vec::new()];
+    for record in records(book) {
+        match record[0] >> 28 {
+            6 => credits += 1,
+            7 => covers[credits - 1].push(record[1]),
+            _ => {}
+        }
+    }
+    covers
 }
 
 #[test]
