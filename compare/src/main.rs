@@ -5,7 +5,6 @@
 
 #[cfg(feature = "library")]
 mod bench;
-#[cfg(feature = "library")]
 mod comparison;
 mod fast;
 mod filing;
@@ -18,7 +17,6 @@ mod model;
 mod printing;
 mod reached;
 mod samples;
-mod selftest;
 mod text;
 
 use std::io::{self, Read, Write};
@@ -27,7 +25,7 @@ use std::process::ExitCode;
 use std::{env, fs};
 
 const USAGE: &str = "\
-selftest N SEED    check the model on N generated books
+selftest N SEED    check the model, and `fast` with it, on N generated books
 compare N SEED     compare the library with the model (feature `library`)
 bench              time the library and Rust (feature `library`)
 text FILE          turn a text book into little-endian words on standard output
@@ -48,7 +46,7 @@ fn main() -> ExitCode {
 
 fn run(arguments: &[&str]) -> Result<(), String> {
     match *arguments {
-        ["selftest", books, seed] => selftest::run(number(books)?, number(seed)?),
+        ["selftest", books, seed] => selftest(number(books)?, number(seed)?),
         ["compare", books, seed] => compare(number(books)?, number(seed)?),
         ["bench"] => bench(),
         ["text", file] => print_words(file),
@@ -80,9 +78,21 @@ fn print_template() -> Result<(), String> {
     Ok(())
 }
 
+fn selftest(books: u64, seed: u64) -> Result<(), String> {
+    let peer = comparison::Peer {
+        name: "fast",
+        file: fast::file,
+    };
+    comparison::run(peer, books, seed)
+}
+
 #[cfg(feature = "library")]
 fn compare(books: u64, seed: u64) -> Result<(), String> {
-    comparison::run(books, seed)
+    let peer = comparison::Peer {
+        name: "library",
+        file: library::file,
+    };
+    comparison::run(peer, books, seed)
 }
 
 #[cfg(feature = "library")]

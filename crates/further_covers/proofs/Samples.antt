@@ -2,7 +2,6 @@
 -- improved, and one whose set is netted lies between. The law holds of each, and is applied to the last: its premises can be met. Assumes nothing.
 use Prim.Native.Nat.{ℕ, _+_, _-_, _*_, _^_, _≤_}
 use mathlib.Core.Path.{_≡_, refl}
-use mathlib.Core.Bool.{true, false}
 use mathlib.Core.List.{List, [], _∷_, _++_}
 use native.Mathlib.Omega.{arith}
 use lib.Dec.{lit≤}
@@ -136,41 +135,15 @@ netted-less = less-exposed bothPut (computed .between)
 
 -- the total return swap in a set without a mark, covered by so much
 abbrev swapCovered : ℕ → Placed
-swapCovered amount = record {
-  begin = 7;
-  end = 19;
-  item = derivatives (record {
-    netting = false;
-    notSegregated = false;
-    daily = false;
-    sameCurrency = false;
-    fullAmount = false;
-    exempt = false;
-    received = 0;
-    paid = 0;
-    posted = 0;
-    members = written (record {
-      entity = 1;
-      rank = 0;
-      qualifying = false;
-      totalReturn = true;
-      closeOut = false;
-      gain = 0;
-      loss = 0;
-      notional = 100;
-      lossTaken = 0;
-      days = 50;
-      premiums = 0;
-      covers = record { at = 10; protection = 0; amount = amount } ∷ [];
-    }) ∷ [];
-  });
-}
+swapCovered amount =
+    let swap = writtenAt aReturnSwap 0 (record { at = 10; protection = 0; amount = amount } ∷ []) in
+    record { begin = 7; end = 19; item = derivatives (derivativeSetAt (aSetOf 0) (written swap ∷ [])) }
 
 -- covered by 100 or by 200 of 100, all of its add-on of 10,000 stays in, and nothing else
 past-notional : (bands : Bands)
     → ((ps qs : List Placed) → Pairs (PlacedByCredits CoveredNoLess) ps qs → Falls (sumOver (exposureOf bands) ps) (sumOver (exposureOf bands) qs) (coverOver qs - coverOver ps))
     → ⊥
-unfolding writtenAddOn keptIn tallyOf replacementOf weightedIn
+unfolding gainOf lossOf writtenAt derivativeSetAt writtenAddOn keptIn tallyOf replacementOf weightedIn
 past-notional bands f = let z : 10000 + 900 * 100 ≤ 10000 = f (swapCovered 100 ∷ []) (swapCovered 200 ∷ []) (Pairs.more more Pairs.none) .at-least in omega arith
   where
     more : PlacedByCredits CoveredNoLess (swapCovered 100) (swapCovered 200)

@@ -2,7 +2,7 @@
 use Prim.Native.Nat.{ℕ, _+_, _-_, _*_, _≤_}
 use mathlib.Core.Path.{_≡_}
 use mathlib.Core.List.{List, []}
-use lib.IntN.{ℤ, pos}
+use lib.IntN.{ℤ, pos, _+ℤ_}
 use lib.Signed.{_≤ℤ_}
 use Rattle.rules.specs.declared.Bands.{Bands}
 use Rattle.rules.specs.declared.Entry.{Entry}
@@ -13,18 +13,24 @@ use Rattle.rules.specs.Weigh.{coveredOf, coversIn}
 use Rattle.rules.specs.Rows.{ofDerivatives, sumOver}
 use Rattle.rules.specs.Filing.{Filing, filing}
 use Rattle.rules.specs.TwoDesks.{exposureIn}
-use Rattle.rules.proofs.Lists.{Every, Pairs}
-use Rattle.laws.specs.Exposure.{CoversWithin, exposureOf}
+use Rattle.rules.proofs.Lists.{Pairs}
+use Rattle.laws.specs.Exposure.{AllWithin, exposureOf}
 use Rattle.cuts.specs.Words.{Inserted}
 use Rattle.cuts.specs.Further.{coveredBy, PlacedByCredits}
 
--- ---- how much an exposure falls, in thousandths
+-- ---- how much an exposure falls
 
--- for each unit of further cover, which row 10 takes out, 1,000 thousandths; less what it keeps in of the add-on, at most 100, since an add-on is
--- at most 100 for each unit of notional
+-- thousandths for each unit of further cover, at least and at most: row 10 takes 1,000 out, and of the add-on, which is at most 100 for each unit of
+-- notional, at most 100 more stay in
+abbrev pub leastFall : ℕ
+leastFall = 900
+
+abbrev pub mostFall : ℕ
+mostFall = 1000
+
 pub record Falls (before after units : ℕ) : Type 0 where
-  pub at-least : after + 900 * units ≤ before
-  pub at-most : before ≤ after + 1000 * units
+  pub at-least : after + leastFall * units ≤ before
+  pub at-most : before ≤ after + mostFall * units
 
 -- from so many units of cover to no fewer: it falls for each unit more
 pub record FallsWith (before after covered covered′ : ℕ) : Type 0 where
@@ -44,10 +50,6 @@ coverIn = ofDerivatives (λ (s : DerivativeSet). total coversIn (s .members))
 
 abbrev pub coverOver : List Placed → ℕ
 coverOver = sumOver coverIn
-
--- the covers of each set are within, as in every accepted book
-abbrev pub AllWithin : List Placed → Type 0
-AllWithin = Every (λ (q : Placed). CoversWithin (q .item))
 
 -- two lists of items side by side, equal but for places and for such credits, the covers of the second within: the sum of the exposures falls
 abbrev pub ItemsFall : Type 0
@@ -69,15 +71,11 @@ putIn (Inserted.ends k l) = 0
 abbrev pub coverRead : List ℕ → ℕ
 coverRead ws = coverOver (itemsOf ws .records)
 
--- row 21 of two filings: "the second never has the larger exposure"; and sharper, neither is negative, and it falls for each unit put in, of
--- which as many more are read in the second book
+-- row 21 of two filings: "the second never has the larger exposure"; and sharper, it falls for each unit put in, of which as many more are read
 pub record LessExposed (xs ys : List ℕ) (units : ℕ) (a b : Filing) : Type 0 where
   pub no-larger : exposureIn b ≤ℤ exposureIn a
-  pub before : ℕ
-  pub after : ℕ
-  pub first : exposureIn a ≡ pos before
-  pub second : exposureIn b ≡ pos after
-  pub falls : Falls before after units
+  pub at-least : (exposureIn b +ℤ pos (leastFall * units)) ≤ℤ exposureIn a
+  pub at-most : exposureIn a ≤ℤ (exposureIn b +ℤ pos (mostFall * units))
   pub covers : coverRead ys ≡ coverRead xs + units
 
 -- "of two accepted books, where the second has further covers and is otherwise alike but for the end count", whatever their rows and registers

@@ -18,7 +18,7 @@ use Rattle.rules.proofs.Lists.{Every, total-le}
 use Rattle.rules.proofs.Lists
 use Rattle.rules.proofs.Weighted.{mono-x}
 use Rattle.rules.proofs.Differences.{Difference, of-pos, of-minus, as-difference, same, plus}
-use Rattle.laws.specs.Exposure.{CoversWithin, exposureOf, ExposureIsSum}
+use Rattle.laws.specs.Exposure.{CoversWithin, AllWithin, exposureOf, ExposureIsSum}
 use Rattle.laws.proofs.Accepted.{accepted-is}
 use Rattle.laws.proofs.Valid.{ValidTrade, ValidItem, ValidPlaced, valid-items}
 use Rattle.laws.proofs.Settling.{all-within, book-within}
@@ -112,7 +112,7 @@ item-balance bands (offBalance o) v c = go (conversionOf (o .class) (o .committe
 
 -- ---- the book
 
-book-balance : (bands : Bands) (ps : List Placed) → Every ValidPlaced ps → Every (λ (p : Placed). CoversWithin (p .item)) ps
+book-balance : (bands : Bands) (ps : List Placed) → Every ValidPlaced ps → AllWithin ps
     → sumOver (ups bands) ps ≡ sumOver (exposureOf bands) ps + sumOver (downs bands) ps
 book-balance bands [] v c = refl
 book-balance bands (p ∷ ps) (Every.more v vs) (Every.more c cs) = omega (arith, item-balance bands (p .item) v c, book-balance bands ps vs cs)

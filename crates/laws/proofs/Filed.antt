@@ -12,9 +12,8 @@ use Rattle.rules.specs.Read.{headOf, itemsOf}
 use Rattle.rules.specs.Rows.{sumOver, rowsOf}
 use Rattle.rules.specs.Filing.{Outcome, numberOf, outcomeOf, filingOf, filing}
 use Rattle.rules.specs.TwoDesks.{exposureIn}
-use Rattle.rules.proofs.Lists.{Every}
 use Rattle.laws.specs.ReadAs.{ReadAs}
-use Rattle.laws.specs.Exposure.{CoversWithin, exposureOf}
+use Rattle.laws.specs.Exposure.{AllWithin, exposureOf}
 use Rattle.laws.proofs.Accepted.{accepted-is, Numbered, numbered}
 use Rattle.laws.proofs.Settling.{all-within, book-within}
 use Rattle.laws.proofs.ExposureSum.{exposure-is-sum}
@@ -22,7 +21,7 @@ use Rattle.laws.proofs.ExposureSum.{exposure-is-sum}
 -- a book, filed with these buffers, that is read as these items
 pub record Filed (ws : List ℕ) (rows : List ℤ) (register : List Entry) (items : List Placed) : Type 0 where
   pub reading : ReadAs ws (length rows) (length register) items
-  pub within : Every (λ (p : Placed). CoversWithin (p .item)) items
+  pub within : AllWithin items
   pub exposure : exposureIn (filing ws rows register) ≡ pos (sumOver (exposureOf (headOf ws .bands)) items)
 
 -- so is every book that is filed with number 0

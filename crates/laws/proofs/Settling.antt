@@ -14,7 +14,7 @@ use Rattle.rules.specs.Weigh.{writtenIn, coversIn}
 use Rattle.rules.specs.Register.{blank, drawsFrom, drawsOf, drawsIn, drawsOver, unfitFor, drawFault, drawn, settled, ifFit, settle}
 use Rattle.rules.proofs.Lists.{Every, or-left, or-right}
 use Rattle.rules.proofs.Lists
-use Rattle.laws.specs.Exposure.{CoversWithin}
+use Rattle.laws.specs.Exposure.{CoversWithin, AllWithin}
 use Rattle.laws.proofs.Valid.{cause-none}
 use Rattle.laws.proofs.Each.{every-first, every-append}
 
@@ -88,7 +88,7 @@ item-within begin (derivatives s) e = members-within begin (s .members) e
 item-within begin (financing s) e = tt
 item-within begin (offBalance o) e = tt
 
-pub book-within : (ps : List Placed) → Every Within (drawsOver ps) → Every (λ (p : Placed). CoversWithin (p .item)) ps
+pub book-within : (ps : List Placed) → Every Within (drawsOver ps) → AllWithin ps
 unfolding drawsOver
 book-within [] e = Every.none
 book-within (p ∷ ps) e =

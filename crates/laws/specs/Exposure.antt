@@ -12,6 +12,7 @@ use Rattle.rules.specs.Rows.{assetRows, tallyIn, keptWeighted, sumOver, sumsOf,
 use Rattle.rules.specs.declared.Entry.{Entry}
 use Rattle.rules.specs.Read.{headOf}
 use Rattle.rules.specs.Filing.{outcomeOf, accepted}
+use Rattle.rules.proofs.Lists.{Every}
 
 -- replacement and the weighted add-on that is kept in, unless the client leg is exempt; collateral posted; margin paid, unless it is
 -- offset; and what the covers leave of the written notional less its loss
@@ -28,6 +29,9 @@ CoversWithin (asset a) = Unit {0}
 CoversWithin (derivatives s) = total coversIn (s .members) ≤ total writtenIn (s .members)
 CoversWithin (financing s) = Unit {0}
 CoversWithin (offBalance o) = Unit {0}
+
+abbrev pub AllWithin : List Placed → Type 0
+AllWithin = Every (λ (p : Placed). CoversWithin (p .item))
 
 -- gross assets less securities and cash netted; E*; and all value lent where the agent is exposed further
 abbrev pub financingExposure : FinancingSet → ℕ
