@@ -33,7 +33,7 @@ amount-shape {xs} {ys} {k} o = record { long = o .long; at = λ i. go i (ℕ-dis
     go i (no p) = rw (o .others i p) (shape-itself (word ys i))
 
 -- from any place before that word on they are equal but for one amount again
-one-behind : {xs ys : List ℕ} {k : ℕ} (at : ℕ) → at ≤ k → OneAmount xs ys k → OneAmount (drop at xs) (drop at ys) (k - at)
+pub one-behind : {xs ys : List ℕ} {k : ℕ} (at : ℕ) → at ≤ k → OneAmount xs ys k → OneAmount (drop at xs) (drop at ys) (k - at)
 one-behind {xs} {ys} {k} at h o =
     let e : at + (k - at) ≡ k = omega arith in
     record {
@@ -54,7 +54,7 @@ module _ (xs ys : List ℕ) (k : ℕ) where
   pub data MemberOther (at : ℕ) : Member → Member → ℕ → Type 0 where
     trades : MemberOther at (trade (tradeAt xs at)) (trade (tradeAt ys at)) (at + 5)
     credits : (cs : List Cover) {stop : ℕ} → k < at + 6 → MemberOther at (written (writtenAt xs at cs)) (written (writtenAt ys at cs)) stop
-    covers : {cs ds : List Cover} {stop : ℕ} → OneOther (CoverRead xs) (CoverRead ys) CoverOther k cs ds → MemberOther at (written (writtenAt xs at cs)) (written (writtenAt ys at ds)) stop
+    covers : {cs ds : List Cover} {stop : ℕ} → OneOther (CoverRead xs) (CoverRead ys) CoverOther k (at + 6) cs ds → MemberOther at (written (writtenAt xs at cs)) (written (writtenAt ys at ds)) stop
     baskets : MemberOther at (basket (basketAt xs at)) (basket (basketAt ys at)) (at + suc (namesIn (word xs at) + 2))
 
   pub data FinancingTradeOther (at : ℕ) : FinancingTrade → FinancingTrade → ℕ → Type 0 where
@@ -64,8 +64,8 @@ module _ (xs ys : List ℕ) (k : ℕ) where
   pub data ItemOther : Item → Item → ℕ → Type 0 where
     assets : ItemOther (asset (assetAt xs)) (asset (assetAt ys)) 4
     sets : (l : List Member) {stop : ℕ} → k < 4 → ItemOther (derivatives (derivativeSetAt xs l)) (derivatives (derivativeSetAt ys l)) stop
-    members : {l m : List Member} {stop : ℕ} → OneOther (MemberRead xs) (MemberRead ys) MemberOther k l m → ItemOther (derivatives (derivativeSetAt xs l)) (derivatives (derivativeSetAt ys m)) stop
-    financings : {l m : List FinancingTrade} {stop : ℕ} → OneOther (FinancingTradeRead xs) (FinancingTradeRead ys) FinancingTradeOther k l m
+    members : {l m : List Member} {stop : ℕ} → OneOther (MemberRead xs) (MemberRead ys) MemberOther k 4 l m → ItemOther (derivatives (derivativeSetAt xs l)) (derivatives (derivativeSetAt ys m)) stop
+    financings : {l m : List FinancingTrade} {stop : ℕ} → OneOther (FinancingTradeRead xs) (FinancingTradeRead ys) FinancingTradeOther k 1 l m
         → ItemOther (financing (financingSetAt xs l)) (financing (financingSetAt ys m)) stop
     commitments : ItemOther (offBalance (offBalanceAt xs)) (offBalance (offBalanceAt ys)) 2
 
@@ -226,7 +226,7 @@ module _ {xs ys : List ℕ} {k : ℕ} (o : OneAmount xs ys k) where
 
   -- ONE AMOUNT OTHER, in an item: the books have the same head, end at the same place, and all items but that one are the same
   pub items-other : itemsOf xs .number ≡ 0 → itemsOf ys .number ≡ 0 → itemsBegin xs ≤ k
-      → (headOf xs ≡ headOf ys) × (itemsOf xs .place ≡ itemsOf ys .place) × OneOther (ItemHere xs) (ItemHere ys) (PlacedOther xs ys k) k (itemsOf xs .records) (itemsOf ys .records)
+      → (headOf xs ≡ headOf ys) × (itemsOf xs .place ≡ itemsOf ys .place) × OneOther (ItemHere xs) (ItemHere ys) (PlacedOther xs ys k) k (itemsBegin xs) (itemsOf xs .records) (itemsOf ys .records)
   items-other e f h =
       let c = book-cut xs e in
       let d = book-cut ys f in

@@ -182,7 +182,7 @@ pub one-amount : OneAmount sample valued 24
 one-amount = record { long = refl; there = omega arith; first = refl; second = refl; others = λ i n. sym (getD-set-other sample 24 i 5 0 n) }
 
 -- so only that set changes
-pub one-other : OneOther (ItemHere sample) (ItemHere valued) (PlacedOther sample valued 24) 24 (itemsOf sample .records) (itemsOf valued .records)
+pub one-other : OneOther (ItemHere sample) (ItemHere valued) (PlacedOther sample valued 24) 24 (itemsBegin sample) (itemsOf sample .records) (itemsOf valued .records)
 one-other = items-other one-amount (computed .read) (computed .valued-read) (rw (computed .begin) (omega arith)) .2
 
 -- and word 12 the carrying amount of the asset at 11, so that only that asset changes

@@ -7,8 +7,8 @@ use native.Mathlib.Omega.{arith}
 use native.Mathlib.Decide.{decLt}
 use Rattle.cuts.proofs.Chains.{Chain}
 
--- the same records but for one, in whose words k stands, and how that one is read in either
-pub record OneOther {A : Type 0} (R S : ℕ → A → ℕ → Type 0) (J : ℕ → A → A → ℕ → Type 0) (k : ℕ) (l m : List A) : Type 0 where
+-- the same records but for one, in whose words k stands, how those before it are read from a place on, and how that one is read in either
+pub record OneOther {A : Type 0} (R S : ℕ → A → ℕ → Type 0) (J : ℕ → A → A → ℕ → Type 0) (k start : ℕ) (l m : List A) : Type 0 where
   pub before : List A
   pub first : A
   pub second : A
@@ -17,6 +17,7 @@ pub record OneOther {A : Type 0} (R S : ℕ → A → ℕ → Type 0) (J : ℕ �
   pub next : ℕ
   pub from : at ≤ k
   pub below : k < next
+  pub reads-before : Chain R start before at
   pub reads-first : R at first next
   pub reads-second : S at second next
   pub step : J at first second next
@@ -24,8 +25,9 @@ pub record OneOther {A : Type 0} (R S : ℕ → A → ℕ → Type 0) (J : ℕ �
   pub is-second : m ≡ before ++ second ∷ after
 
 -- the same one before both
-one-later : {A : Type 0} {R S : ℕ → A → ℕ → Type 0} {J : ℕ → A → A → ℕ → Type 0} {k : ℕ} {l m : List A} (a : A) → OneOther R S J k l m → OneOther R S J k (a ∷ l) (a ∷ m)
-one-later {A} a i = record {
+one-later : {A : Type 0} {R S : ℕ → A → ℕ → Type 0} {J : ℕ → A → A → ℕ → Type 0} {k start next : ℕ} {l m : List A} (a : A) → R start a next
+    → OneOther R S J k next l m → OneOther R S J k start (a ∷ l) (a ∷ m)
+one-later {A} a r i = record {
   before = a ∷ i .before;
   first = i .first;
   second = i .second;
@@ -34,6 +36,7 @@ one-later {A} a i = record {
   next = i .next;
   from = i .from;
   below = i .below;
+  reads-before = Chain.then r (i .reads-before);
   reads-first = i .reads-first;
   reads-second = i .reads-second;
   step = i .step;
@@ -63,23 +66,23 @@ module _ {A : Type 0} {R S : ℕ → A → ℕ → Type 0} {Over Under : ℕ →
       (rw (e .0, q .0), q .1)
 
   -- from k or before it on all but one are
-  pub chains-other : {at stop stop′ : ℕ} {l m : List A} → at ≤ k → k < stop → Chain R at l stop → Over stop → Chain S at m stop′ → Under stop′ → (stop ≡ stop′) × OneOther R S J k l m
+  pub chains-other : {at stop stop′ : ℕ} {l m : List A} → at ≤ k → k < stop → Chain R at l stop → Over stop → Chain S at m stop′ → Under stop′ → (stop ≡ stop′) × OneOther R S J k at l m
   chains-other h b Chain.done o d u = let z : ⊥ = omega arith in absurd z
   chains-other h b (Chain.then {at} {next} {a = a} r c) o Chain.done u = absurd (t .second-ends at a next u r)
   chains-other {stop = stop} {stop′ = stop′} h below (Chain.then {at} {next} {a = a} {l} r c) o (Chain.then {next = next′} {a = b} {l = m} s d) u =
       go (decLt k next) (λ g d′. chains-other g below c o d′ u)
     where
-      go : Dec (k < next) → (next ≤ k → Chain S next m stop′ → (stop ≡ stop′) × OneOther R S J k l m) → (stop ≡ stop′) × OneOther R S J k (a ∷ l) (b ∷ m)
+      go : Dec (k < next) → (next ≤ k → Chain S next m stop′ → (stop ≡ stop′) × OneOther R S J k next l m) → (stop ≡ stop′) × OneOther R S J k at (a ∷ l) (b ∷ m)
       go (yes p) f =
           let e = t .step at a b next next′ h p r s in
           let d′ : Chain S next m stop′ = rw (e .0) d in
           let q = chains-same p c o d′ u in
           let s′ : S at b next = rw (e .0) s in (
             q .1,
-            record { before = []; first = a; second = b; after = l; at = at; next = next; from = h; below = p; reads-first = r; reads-second = s′; step = e .1; is-first = refl; is-second = rw (q .0) },
+            record { before = []; first = a; second = b; after = l; at = at; next = next; from = h; below = p; reads-before = Chain.done; reads-first = r; reads-second = s′; step = e .1; is-first = refl; is-second = rw (q .0) },
           )
       go (no p) f =
           let e = t .same at a b next next′ (λ _. omega arith) r s in
           let d′ : Chain S next m stop′ = rw (e .1) d in
           let q = f (omega arith) d′ in
-          (q .0, rw (← e .0) (one-later a (q .1)))
+          (q .0, rw (← e .0) (one-later a r (q .1)))

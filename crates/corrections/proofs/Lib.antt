@@ -1,0 +1,11 @@
+pub mod Apart
+pub mod Exact
+pub mod Lent
+pub mod Values
+pub mod Places
+pub mod Counted
+pub mod Assets
+pub mod Members
+pub mod FinancingTrades
+pub mod Items
+pub mod Books
