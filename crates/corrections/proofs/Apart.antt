@@ -1,12 +1,12 @@
 -- How far two numbers are apart, and two sums over lists that are equal but in one place. Assumes nothing.
-use Prim.Native.Nat.{ℕ, zero, suc, _+_, _-_, _*_, min, _≤_, _<_}
-use mathlib.Core.Path.{_≡_, refl}
+use Prim.Native.Nat.{ℕ, zero, suc, _+_, _-_, min, _≤_, _<_}
+use mathlib.Core.Path.{_≡_}
 use mathlib.Core.Bool.{Bool, true, false, cond}
 use mathlib.Core.List.{List, [], _∷_, _++_}
 use native.Mathlib.Omega.{arith}
 use native.Mathlib.Decide.{decLt}
 use borrow.Author.Tests.{lt-ltb, le-ltb}
-use lib.IntN.{ℤ, pos, negsuc, natAbs, subℕ}
+use lib.IntN.{pos, negsuc, natAbs, subℕ}
 use Rattle.rules.specs.Word.{bitOf, sizeOf, gainOf, lossOf}
 use Rattle.rules.specs.Book.{total}
 use Rattle.cuts.proofs.Steps.{OneOther}

@@ -1,11 +1,11 @@
 -- One role for each word, record by record. Assumes nothing.
 use Prim.Native.Nat.{ℕ, _+_}
-use mathlib.Core.Path.{_≡_, refl, _∙_}
+use mathlib.Core.Path.{_≡_, refl}
 use mathlib.Core.Bool.{Bool}
 use mathlib.Core.List.{List, [], _∷_, flatMap}
 use native.Mathlib.Omega.{arith}
 use lib.ListN.{length, replicate, length-append, length-replicate}
-use Rattle.rules.specs.Book.{Cover, Member, trade, written, basket, FinancingTrade, Item, asset, derivatives, financing, offBalance, Placed, total}
+use Rattle.rules.specs.Book.{Member, trade, written, basket, FinancingTrade, Item, asset, derivatives, financing, offBalance, Placed, total}
 use Rattle.rules.specs.Read.{protectionsOf, itemsOf}
 use Rattle.cuts.proofs.Records.{MemberRead, FinancingTradeRead}
 use Rattle.cuts.proofs.Cutting.{ItemHere, book-cut}

@@ -12,6 +12,8 @@ use Rattle.rules.specs.Book.{Asset, OffBalance, asset, offBalance}
 use Rattle.rules.specs.Rows.{assetRows}
 use Rattle.laws.specs.Exposure.{exposureOf}
 use Rattle.laws.proofs.FactorBounds.{conversion-at-most}
+use Rattle.corrections.specs.Roles.{carrying, commitment}
+use Rattle.corrections.specs.Claims.{Ceiling}
 use Rattle.corrections.proofs.Apart.{gap}
 
 -- what each unit adds exactly moves in proportion, up or down
@@ -32,9 +34,9 @@ carriedAt c a = record { fiduciary = a .fiduciary; carrying = c; provision = a .
 abbrev pub assetRate : (fiduciary : Bool) → ℕ
 assetRate fiduciary = cond fiduciary 0 1000
 
-rate-within : (fiduciary : Bool) → assetRate fiduciary ≤ 1000
-rate-within true = omega arith
-rate-within false = omega arith
+rate-within : (fiduciary : Bool) {ceiling : ℕ} → Ceiling (carrying fiduciary) ceiling → assetRate fiduciary ≤ ceiling
+rate-within true Ceiling.of-carrying = omega arith
+rate-within false Ceiling.of-carrying = omega arith
 
 module _ (bands : Bands) (a : Asset) where
   -- EXACTLY, where provision and deduction are within the smaller amount
@@ -47,12 +49,12 @@ module _ (bands : Bands) (a : Asset) where
       go true = omega arith
       go false = omega arith
 
-  -- so by at most 1,000 for each unit
-  pub carrying-ceiling : (c c′ : ℕ) → a .provision + a .deducted ≤ c → a .provision + a .deducted ≤ c′
-      → gap (exposureOf bands (asset (carriedAt c a))) (exposureOf bands (asset (carriedAt c′ a))) ≤ 1000 * gap c c′
-  carrying-ceiling c c′ h k =
+  -- so within its ceiling
+  pub carrying-ceiling : {ceiling : ℕ} → Ceiling (carrying (a .fiduciary)) ceiling → (c c′ : ℕ) → a .provision + a .deducted ≤ c → a .provision + a .deducted ≤ c′
+      → gap (exposureOf bands (asset (carriedAt c a))) (exposureOf bands (asset (carriedAt c′ a))) ≤ ceiling * gap c c′
+  carrying-ceiling l c c′ h k =
       let e = in-proportion (λ (x : ℕ). exposureOf bands (asset (carriedAt x a))) (assetRate (a .fiduciary)) c c′ (λ d. carrying-exact c d h) (λ d. carrying-exact c′ d k) in
-      rw e (mul-le-mul-right (gap c c′) (rate-within (a .fiduciary)))
+      rw e (mul-le-mul-right (gap c c′) (rate-within (a .fiduciary) l))
 
 -- ---- the notional of an off-balance item
 
@@ -60,13 +62,17 @@ module _ (bands : Bands) (a : Asset) where
 abbrev pub ofNotional : ℕ → OffBalance → OffBalance
 ofNotional n o = record { class = o .class; committed = o .committed; notional = n }
 
+conversion-within : (class committed : ℕ) {ceiling : ℕ} → Ceiling (commitment class committed) ceiling → conversionOf class committed ≤ ceiling
+conversion-within class committed Ceiling.of-commitment = conversion-at-most class committed
+
 module _ (bands : Bands) (o : OffBalance) where
   -- EXACTLY, by the conversion figure
   pub notional-exact : (n d : ℕ) → exposureOf bands (offBalance (ofNotional (n + d) o)) ≡ exposureOf bands (offBalance (ofNotional n o)) + conversionOf (o .class) (o .committed) * d
   notional-exact n d = omega arith
 
-  -- so by at most 1,000 for each unit
-  pub notional-ceiling : (n n′ : ℕ) → gap (exposureOf bands (offBalance (ofNotional n o))) (exposureOf bands (offBalance (ofNotional n′ o))) ≤ 1000 * gap n n′
-  notional-ceiling n n′ =
+  -- so within its ceiling
+  pub notional-ceiling : {ceiling : ℕ} → Ceiling (commitment (o .class) (o .committed)) ceiling → (n n′ : ℕ)
+      → gap (exposureOf bands (offBalance (ofNotional n o))) (exposureOf bands (offBalance (ofNotional n′ o))) ≤ ceiling * gap n n′
+  notional-ceiling l n n′ =
       let e = in-proportion (λ (x : ℕ). exposureOf bands (offBalance (ofNotional x o))) (conversionOf (o .class) (o .committed)) n n′ (notional-exact n) (notional-exact n′) in
-      rw e (mul-le-mul-right (gap n n′) (conversion-at-most (o .class) (o .committed)))
+      rw e (mul-le-mul-right (gap n n′) (conversion-within (o .class) (o .committed) l))

@@ -8,6 +8,8 @@ use native.Mathlib.Omega.{arith}
 use Rattle.rules.specs.Book.{FinancingTrade, FinancingSet, total}
 use Rattle.rules.specs.Weigh.{sumBelow, onDay, nettedOn, lastDay, cashNetted, excessOf}
 use Rattle.laws.specs.Exposure.{financingExposure}
+use Rattle.corrections.specs.Roles.{lent}
+use Rattle.corrections.specs.Claims.{Ceiling}
 use Rattle.corrections.proofs.Apart.{gap, OneOf, one-apart, one-same}
 
 -- ---- a trade that lends otherwise
@@ -62,13 +64,14 @@ module _ {d : ℕ} {l m : List FinancingTrade} (o : OneOf (Relent d) l m) where
 
 -- ---- the excess and the value lent
 
--- a part that stays, and one that moves or two
+-- a part that stays, and one that moves, or two with further exposure
 module _ {d : ℕ} where
-  once : (b b′ e e′ : ℕ) → b ≡ b′ → gap e e′ ≤ d → gap (1000 * b + 1000 * e + 0) (1000 * b′ + 1000 * e′ + 0) ≤ 1000 * d
-  once b b′ e e′ same h = omega arith
+  once : {ceiling : ℕ} → Ceiling (lent false) ceiling → (b b′ e e′ : ℕ) → b ≡ b′ → gap e e′ ≤ d → gap (1000 * b + 1000 * e + 0) (1000 * b′ + 1000 * e′ + 0) ≤ ceiling * d
+  once Ceiling.of-lent b b′ e e′ same h = omega arith
 
-  both : (b b′ e e′ l l′ : ℕ) → b ≡ b′ → gap e e′ ≤ d → gap l l′ ≤ d → gap (1000 * b + 1000 * e + 1000 * l) (1000 * b′ + 1000 * e′ + 1000 * l′) ≤ 2000 * d
-  both b b′ e e′ l l′ same h k = omega arith
+  twice : {ceiling : ℕ} → Ceiling (lent true) ceiling → (b b′ e e′ l l′ : ℕ) → b ≡ b′ → gap e e′ ≤ d → gap l l′ ≤ d
+      → gap (1000 * b + 1000 * e + 1000 * l) (1000 * b′ + 1000 * e′ + 1000 * l′) ≤ ceiling * d
+  twice Ceiling.of-lent-further b b′ e e′ l l′ same h k = omega arith
 
 -- what a set lends, and receives; the excess trade by trade; and gross assets less securities and cash netted
 abbrev lentIn : FinancingSet → ℕ
@@ -111,12 +114,13 @@ module _ (d : ℕ) (s t : FinancingSet) (r : RelentSet d s t) where
       rw (assets, cash-same (r .trades))
 
   -- A SET: by at most 1,000 for each unit, and 2,000 with further exposure
-  pub lent-ceiling : gap (financingExposure s) (financingExposure t) ≤ cond (s .further) 2000 1000 * d
+  pub lent-ceiling : {ceiling : ℕ} → Ceiling (lent (s .further)) ceiling → gap (financingExposure s) (financingExposure t) ≤ ceiling * d
   unfolding excessOf
-  lent-ceiling =
+  lent-ceiling {ceiling} h =
       let further : s .further ≡ t .further = ap (λ (u : FinancingSet). u .further) (r .alike) in
-      rw (← further) (go (s .further))
+      rw (← further) (go (s .further) h)
     where
-      go : (f : Bool) → gap (1000 * assetsLeft s + 1000 * excessOf s + cond f (1000 * lentIn s) 0) (1000 * assetsLeft t + 1000 * excessOf t + cond f (1000 * lentIn t) 0) ≤ cond f 2000 1000 * d
-      go true = both (assetsLeft s) (assetsLeft t) (excessOf s) (excessOf t) (lentIn s) (lentIn t) assets-same excess-apart lent-apart
-      go false = once (assetsLeft s) (assetsLeft t) (excessOf s) (excessOf t) assets-same excess-apart
+      go : (f : Bool) → Ceiling (lent f) ceiling
+          → gap (1000 * assetsLeft s + 1000 * excessOf s + cond f (1000 * lentIn s) 0) (1000 * assetsLeft t + 1000 * excessOf t + cond f (1000 * lentIn t) 0) ≤ ceiling * d
+      go true h = twice h (assetsLeft s) (assetsLeft t) (excessOf s) (excessOf t) (lentIn s) (lentIn t) assets-same excess-apart lent-apart
+      go false h = once h (assetsLeft s) (assetsLeft t) (excessOf s) (excessOf t) assets-same excess-apart

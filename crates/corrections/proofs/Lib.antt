@@ -1,11 +1,14 @@
 pub mod Apart
 pub mod Exact
-pub mod Lent
 pub mod Values
+pub mod Lent
 pub mod Places
+pub mod Corrected
 pub mod Counted
 pub mod Assets
 pub mod Members
 pub mod FinancingTrades
 pub mod Items
 pub mod Books
+pub mod Ceilings
+pub mod Samples

@@ -1,29 +1,21 @@
--- Where an amount with a ceiling stands: the roles of records are as many as their words, and few of them have a ceiling. Assumes nothing.
+-- Where in a book an amount stands that a claim speaks of. Assumes nothing.
 use Prim.Native.Nat.{ℕ, zero, suc, _+_, _-_, _≤_, _<_}
-use mathlib.Core.Path.{_≡_, refl, sym, _∙_, ap}
-use mathlib.Core.Bool.{Bool, true, false, not, _&&_, cond}
+use mathlib.Core.Path.{_≡_, refl, _∙_, ap}
+use mathlib.Core.Bool.{Bool, true, false, not, _&&_}
 use mathlib.Core.List.{List, [], _∷_, _++_, flatMap}
 use native.Mathlib.Omega.{arith}
 use lib.ListN.{length, getD, replicate, List·getD-append}
 use lib.Seq.{getD-append-add}
-use Rattle.rules.specs.declared.Bands.{Bands}
-use Rattle.rules.specs.Book.{Cover, Item}
+use Rattle.rules.specs.Book.{Cover}
 use Rattle.rules.proofs.Lists.{and-left, and-right}
-use Rattle.laws.specs.Exposure.{exposureOf}
 use Rattle.cuts.proofs.Chains.{Chain}
 use Rattle.cuts.proofs.Steps.{OneOther}
-use Rattle.corrections.specs.Roles.{Other, grade, outside, Role, carrying, commitment, value, lent, other, coverRoles, itemRoles}
-use Rattle.corrections.specs.Claims.{Ceiling}
-use Rattle.corrections.proofs.Apart.{gap}
+use Rattle.corrections.specs.Roles.{Other, outside, Role, carrying, commitment, value, lent, other, coverRoles}
+use Rattle.corrections.proofs.Apart.{OneOf}
 
 -- the role at a place
 abbrev pub roleIn : List Role → ℕ → Role
 roleIn l j = getD l j (other outside)
-
--- what is to be shown of two items: the same roles, and exposures so far apart at most
-pub record Moves (bands : Bands) (thousandths : ℕ) (i j : Item) : Type 0 where
-  pub roles : itemRoles i ≡ itemRoles j
-  pub within : gap (exposureOf bands i) (exposureOf bands j) ≤ thousandths
 
 -- ---- the roles of records that follow each other
 
@@ -51,76 +43,52 @@ module _ {A : Type 0} {R : ℕ → A → ℕ → Type 0} (roles : A → List Rol
       ∙ ap (λ (x : List A). roleIn (flatMap roles x) (k - start)) (c .is-first)
       ∙ role-there (c .first) (c .after) (c .reads-before) (c .reads-first) k (c .from) (c .below)
 
--- the roles are the same if those of the one that differs are
-pub roles-of-other : {A : Type 0} (roles : A → List Role) {R S : ℕ → A → ℕ → Type 0} {J : ℕ → A → A → ℕ → Type 0} {k start : ℕ} {l m : List A} (c : OneOther R S J k start l m)
-    → roles (c .first) ≡ roles (c .second) → flatMap roles l ≡ flatMap roles m
+-- lists that are equal but in one place have the same roles if what stands there has
+pub roles-same : {A : Type 0} {Rel : A → A → Type 0} (roles : A → List Role) {l m : List A} → OneOf Rel l m → ((a b : A) → Rel a b → roles a ≡ roles b) → flatMap roles l ≡ flatMap roles m
 unfolding flatMap
-roles-of-other {A} roles c e = rw (c .is-first, c .is-second) (go (c .before))
+roles-same {A} roles o h = rw (o .is-first, o .is-second) (go (o .before))
   where
-    go : (before : List A) → flatMap roles (before ++ c .first ∷ c .after) ≡ flatMap roles (before ++ c .second ∷ c .after)
-    go [] = rw e
+    go : (before : List A) → flatMap roles (before ++ o .first ∷ o .after) ≡ flatMap roles (before ++ o .second ∷ o .after)
+    go [] = rw (h (o .first) (o .second) (o .related))
     go (a ∷ before) = ap (λ (l : List Role). roles a ++ l) (go before)
 
--- ---- roles without a ceiling
+-- ---- amounts that claims speak of
 
--- all but those that the claim speaks of
-abbrev pub capped : Role → Bool
-capped (carrying fiduciary) = true
-capped (commitment class committed) = true
-capped (value netting) = true
-capped (lent further) = true
-capped (other name) = false
-
-ceiling-capped : {role : Role} {ceiling : ℕ} → Ceiling role ceiling → capped role ≡ true
-ceiling-capped Ceiling.of-carrying = refl
-ceiling-capped Ceiling.of-commitment = refl
-ceiling-capped Ceiling.of-value = refl
-ceiling-capped Ceiling.of-lent = refl
-ceiling-capped Ceiling.of-lent-further = refl
+abbrev pub spokenOf : Role → Bool
+spokenOf (carrying fiduciary) = true
+spokenOf (commitment class committed) = true
+spokenOf (value netting) = true
+spokenOf (lent further) = true
+spokenOf (other name) = false
 
 -- a list has none of them
-abbrev pub noneCapped : List Role → Bool
-noneCapped [] = true
-noneCapped (r ∷ l) = not (capped r) && noneCapped l
+abbrev pub noneSpokenOf : List Role → Bool
+noneSpokenOf [] = true
+noneSpokenOf (r ∷ l) = not (spokenOf r) && noneSpokenOf l
 
 clash : {X : Type 0} (b : Bool) → b ≡ true → not b ≡ true → X
 clash b e f = let z : _≡_ {A = ℕ} 0 1 = cc in absurd (omega arith)
 
--- so no word has a ceiling there
-pub none-there : (l : List Role) → noneCapped l ≡ true → (j : ℕ) {ceiling : ℕ} → Ceiling (roleIn l j) ceiling → ⊥
-none-there [] e j h = clash (capped (other outside)) (ceiling-capped h) refl
-none-there (r ∷ l) e zero h = clash (capped r) (ceiling-capped h) (and-left (not (capped r)) _ e)
-none-there (r ∷ l) e (suc j) h = none-there l (and-right (not (capped r)) _ e) j h
+-- so no word is one of them there
+pub none-there : (l : List Role) → noneSpokenOf l ≡ true → (j : ℕ) → spokenOf (roleIn l j) ≡ true → ⊥
+none-there [] e j h = clash (spokenOf (other outside)) h refl
+none-there (r ∷ l) e zero h = clash (spokenOf r) h (and-left (not (spokenOf r)) _ e)
+none-there (r ∷ l) e (suc j) h = none-there l (and-right (not (spokenOf r)) _ e) j h
 
--- and where one role stands among such, a word that has a ceiling has that role
-pub only-there : (front : List Role) (role : Role) (rest : List Role) → noneCapped front ≡ true → noneCapped rest ≡ true → (j : ℕ) {ceiling : ℕ}
-    → Ceiling (roleIn (front ++ role ∷ rest) j) ceiling → (j ≡ length front) × Ceiling role ceiling
-only-there [] role rest e f zero h = (refl, h)
+-- and where one role stands among others, a word that is one of them stands in its place
+pub only-there : (front : List Role) (role : Role) (rest : List Role) → noneSpokenOf front ≡ true → noneSpokenOf rest ≡ true → (j : ℕ)
+    → spokenOf (roleIn (front ++ role ∷ rest) j) ≡ true → (j ≡ length front) × (roleIn (front ++ role ∷ rest) j ≡ role)
+only-there [] role rest e f zero h = (refl, refl)
 only-there [] role rest e f (suc j) h = absurd (none-there rest f j h)
-only-there (r ∷ front) role rest e f zero h = clash (capped r) (ceiling-capped h) (and-left (not (capped r)) _ e)
-only-there (r ∷ front) role rest e f (suc j) h = let q = only-there front role rest (and-right (not (capped r)) _ e) f j h in (ap suc (q .0), q .1)
+only-there (r ∷ front) role rest e f zero h = clash (spokenOf r) h (and-left (not (spokenOf r)) _ e)
+only-there (r ∷ front) role rest e f (suc j) h = let q = only-there front role rest (and-right (not (spokenOf r)) _ e) f j h in (ap suc (q .0), q .1)
 
--- neither the covers of a credit nor the grades of a basket, nor what stands before the items
-pub covers-none : (covers : List Cover) → noneCapped (flatMap coverRoles covers) ≡ true
+-- neither the covers of a credit nor the grades of a basket are, nor what stands before the items
+pub covers-none : (covers : List Cover) → noneSpokenOf (flatMap coverRoles covers) ≡ true
 unfolding flatMap
 covers-none [] = refl
 covers-none (c ∷ covers) = covers-none covers
 
-pub replicate-none : (n : ℕ) (name : Other) → noneCapped (replicate n (other name)) ≡ true
+pub replicate-none : (n : ℕ) (name : Other) → noneSpokenOf (replicate n (other name)) ≡ true
 replicate-none zero name = refl
 replicate-none (suc n) name = replicate-none n name
-
--- ---- which ceiling it is
-
-pub of-value-is : (netting : Bool) {ceiling : ℕ} → Ceiling (value netting) ceiling → (netting ≡ false) × (ceiling ≡ 1000)
-of-value-is netting Ceiling.of-value = (refl, refl)
-
-pub of-lent-is : (further : Bool) {ceiling : ℕ} → Ceiling (lent further) ceiling → ceiling ≡ cond further 2000 1000
-of-lent-is further Ceiling.of-lent = refl
-of-lent-is further Ceiling.of-lent-further = refl
-
-pub of-carrying-is : (fiduciary : Bool) {ceiling : ℕ} → Ceiling (carrying fiduciary) ceiling → ceiling ≡ 1000
-of-carrying-is fiduciary Ceiling.of-carrying = refl
-
-pub of-commitment-is : (class committed : ℕ) {ceiling : ℕ} → Ceiling (commitment class committed) ceiling → ceiling ≡ 1000
-of-commitment-is class committed Ceiling.of-commitment = refl

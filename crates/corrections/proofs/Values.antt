@@ -4,12 +4,15 @@ use Prim.Native.Nat.{ℕ, _+_, _-_, _*_, _≤_}
 use mathlib.Core.Path.{_≡_, refl, sym, _∙_, ap}
 use mathlib.Core.Bool.{Bool, true, false, cond}
 use native.Mathlib.Omega.{arith}
+use native.Mathlib.Nat.{mul-le-mul-right}
 use Rattle.rules.specs.declared.Bands.{Bands}
 use Rattle.rules.specs.Book.{Member, trade, written, basket, DerivativeSet, total}
 use Rattle.rules.specs.Weigh.{tallyOf, tradeAddOn, writtenAddOn, basketAddOn, gainIn, addOnIn, uncoveredIn, marginOffsets, replacementOf, weightedIn, writtenIn, coversIn}
 use Rattle.rules.specs.Rows.{tallyIn, keptWeighted}
 use Rattle.laws.specs.Exposure.{derivativeExposure}
 use Rattle.cuts.specs.Further.{memberless}
+use Rattle.corrections.specs.Roles.{value}
+use Rattle.corrections.specs.Claims.{Ceiling}
 use Rattle.corrections.proofs.Apart.{gap, OneOf, one-apart, one-same}
 
 -- ---- a member of another value
@@ -92,7 +95,11 @@ unless a b e x y d h = rw (← e) (go a)
     go true = omega arith
     go false = h
 
-module _ (bands : Bands) (d : ℕ) (s t : DerivativeSet) (r : RevaluedSet d s t) (gross : s .netting ≡ false) where
+-- a value that has a ceiling
+not-netted : (netting : Bool) {ceiling : ℕ} → Ceiling (value netting) ceiling → (netting ≡ false) × (1000 ≤ ceiling)
+not-netted netting Ceiling.of-value = (refl, omega arith)
+
+module _ (bands : Bands) (d : ℕ) (s t : DerivativeSet) (r : RevaluedSet d s t) where
   same : (f : Member → ℕ) → ((m : Member) → f (valueless m) ≡ f m) → total f (s .members) ≡ total f (t .members)
   same f h = one-same f (r .members) (λ m n q. sym (h m) ∙ ap f (q .alike) ∙ h n)
 
@@ -102,15 +109,16 @@ module _ (bands : Bands) (d : ℕ) (s t : DerivativeSet) (r : RevaluedSet d s t)
   abbrev counted : DerivativeSet → ℕ
   counted u = 1000 * replacementOf u (tallyIn bands u) + keptWeighted bands u
 
-  counted-apart : gap (counted s) (counted t) ≤ 1000 * d
-  counted-apart =
+  counted-apart : s .netting ≡ false → gap (counted s) (counted t) ≤ 1000 * d
+  counted-apart gross =
       let mark : t .netting ≡ false = sym (ap (λ (u : DerivativeSet). u .netting) (r .alike)) ∙ gross in
       omega (arith, counted-gross bands s gross, counted-gross bands t mark, gains, same (addOnIn bands) (add-on-keeps bands), same uncoveredIn uncovered-keeps)
 
-  -- A SET: by at most 1,000 for each unit
-  pub value-ceiling : gap (derivativeExposure bands s) (derivativeExposure bands t) ≤ 1000 * d
-  value-ceiling =
-      let shown = unless (s .exempt) (t .exempt) (ap (λ (u : DerivativeSet). u .exempt) (r .alike)) (counted s) (counted t) (1000 * d) counted-apart in
+  -- A SET: within that ceiling
+  pub value-ceiling : {ceiling : ℕ} → Ceiling (value (s .netting)) ceiling → gap (derivativeExposure bands s) (derivativeExposure bands t) ≤ ceiling * d
+  value-ceiling h =
+      let n = not-netted (s .netting) h in
+      let shown = unless (s .exempt) (t .exempt) (ap (λ (u : DerivativeSet). u .exempt) (r .alike)) (counted s) (counted t) (1000 * d) (counted-apart (n .0)) in
       let posted : s .posted ≡ t .posted = ap (λ (u : DerivativeSet). u .posted) (r .alike) in
       let paid = ap (λ (u : DerivativeSet). cond (marginOffsets u) 0 (1000 * u .paid)) (r .alike) in
-      omega (arith, same writtenIn written-keeps, same coversIn covers-keeps)
+      omega (arith, same writtenIn written-keeps, same coversIn covers-keeps, mul-le-mul-right d (n .1))

@@ -1,2 +1,3 @@
 pub mod Roles
 pub mod Claims
+pub mod Pairs

@@ -1,0 +1,63 @@
+-- The pairs of books in which one amount is corrected, by computation; and what follows: no ceiling can be lowered, and a netted value has none below
+-- 601,000. Assumes nothing.
+use Prim.Native.Nat.{ℕ, _*_, _≤_, _<_}
+use mathlib.Core.Path.{_≡_, refl, sym}
+use mathlib.Core.List.{List, [], flatMap}
+use native.Mathlib.Omega.{arith}
+use native.Mathlib.Nat.{mul-le-mul-right}
+use lib.ListN.{length, set, length-set}
+use lib.Seq.{getD-set-other}
+use Rattle.rules.specs.Word.{word, kindOf, gainOf, lossOf}
+use Rattle.rules.specs.Run.{runFrom}
+use Rattle.rules.specs.Faults.{cause, assetFault, derivativeSetFault, tradeFault, basketFault, writtenFault, financingSetFault, financingTradeFault, offBalanceFault}
+use Rattle.rules.specs.Calendar.{leapDays, daysOf, after, dateIn, dateOf, dayOf, later, bandsOf}
+use Rattle.rules.specs.Read.{headFaulty, dateFaulty, reportingDate, headOf, lacks, recordThen, assetAt, assetTurn, coverTurn, writtenAt, writtenTurn, tradeAt, tradeTurn, basketAt, basketTurn}
+use Rattle.rules.specs.Read.{memberTurn, derivativeSetAt, derivativeSetTurn, financingTradeAt, financingTradeTurn, financingMemberTurn, financingSetAt, financingSetTurn, offBalanceAt}
+use Rattle.rules.specs.Read.{offBalanceTurn, itemOf, endFault, itemTurn, protectionsOf, itemsOf}
+use Rattle.rules.specs.Factors.{marketFactor, tradeFactor, conversionOf}
+use Rattle.rules.specs.Weighted.{weightedOf}
+use Rattle.rules.specs.Weigh.{tradeAddOn, sortedDown, basketAddOn, writtenAddOn, keptIn, tallyOf, replacementOf, weightedIn, sumBelow, cashNetted, excessOf}
+use Rattle.rules.specs.Rows.{assetRows, sumsOf, rowsOf}
+use Rattle.rules.specs.Register.{drawsFrom, drawsOf, drawsOver, unfitFor, drawFault, settle}
+use Rattle.rules.specs.Filing.{recordsOutcome, admission, outcomeOf, filing}
+use Rattle.cuts.specs.Words.{OneAmount}
+use Rattle.corrections.specs.Roles.{Role}
+use Rattle.corrections.specs.Claims.{NoLower, LowestCeilings}
+use Rattle.corrections.specs.Pairs.{lentRows, Pair, PairsMove}
+use Rattle.corrections.proofs.Apart.{gap, whole-apart}
+
+-- a book with another amount at a place is equal to it but for that
+other-amount : (xs : List ℕ) (k amount : ℕ) → k < length xs → kindOf (word xs k) ≡ 0 → kindOf (word (set xs k amount) k) ≡ 0 → OneAmount xs (set xs k amount) k
+other-amount xs k amount l e f = record { long = sym (length-set xs k amount); there = l; first = e; second = f; others = λ i n. sym (getD-set-other xs k i amount 0 n) }
+
+pub pairs-move : PairsMove
+unfolding gainOf lossOf runFrom cause assetFault derivativeSetFault tradeFault basketFault writtenFault financingSetFault financingTradeFault offBalanceFault leapDays daysOf after dateIn dateOf dayOf later bandsOf headFaulty dateFaulty reportingDate headOf lacks recordThen assetAt assetTurn coverTurn writtenAt writtenTurn tradeAt tradeTurn basketAt basketTurn memberTurn derivativeSetAt derivativeSetTurn financingTradeAt financingTradeTurn financingMemberTurn financingSetAt financingSetTurn offBalanceAt offBalanceTurn itemOf endFault itemTurn protectionsOf itemsOf marketFactor tradeFactor conversionOf weightedOf tradeAddOn sortedDown basketAddOn writtenAddOn keptIn tallyOf replacementOf weightedIn sumBelow cashNetted excessOf assetRows sumsOf rowsOf drawsFrom drawsOf drawsOver unfitFor drawFault settle recordsOutcome admission outcomeOf filing flatMap
+pairs-move = record {
+  of-carrying = record { alike = other-amount _ 4 30 (omega arith) refl refl; role-is = refl; units-are = refl; first-accepted = refl; second-accepted = refl; first-row = refl; second-row = refl };
+  of-commitment = record { alike = other-amount _ 4 20 (omega arith) refl refl; role-is = refl; units-are = refl; first-accepted = refl; second-accepted = refl; first-row = refl; second-row = refl };
+  of-trade = record { alike = other-amount _ 8 10 (omega arith) refl refl; role-is = refl; units-are = refl; first-accepted = refl; second-accepted = refl; first-row = refl; second-row = refl };
+  of-credit = record { alike = other-amount _ 8 0 (omega arith) refl refl; role-is = refl; units-are = refl; first-accepted = refl; second-accepted = refl; first-row = refl; second-row = refl };
+  of-basket = record { alike = other-amount _ 13 10 (omega arith) refl refl; role-is = refl; units-are = refl; first-accepted = refl; second-accepted = refl; first-row = refl; second-row = refl };
+  of-lent = record { alike = other-amount _ 9 30 (omega arith) refl refl; role-is = refl; units-are = refl; first-accepted = refl; second-accepted = refl; first-row = refl; second-row = refl };
+  of-lent-netted = record { alike = other-amount _ 9 20 (omega arith) refl refl; role-is = refl; units-are = refl; first-accepted = refl; second-accepted = refl; first-row = refl; second-row = refl };
+  of-lent-further = record { alike = other-amount _ 9 30 (omega arith) refl refl; role-is = refl; units-are = refl; first-accepted = refl; second-accepted = refl; first-row = refl; second-row = refl };
+  across-zero = record { alike = other-amount _ 8 5 (omega arith) refl refl; role-is = refl; units-are = refl; first-accepted = refl; second-accepted = refl; first-row = refl; second-row = refl };
+  of-netted-value = record { alike = other-amount _ 13 0 (omega arith) refl refl; role-is = refl; units-are = refl; first-accepted = refl; second-accepted = refl; first-row = refl; second-row = refl };
+}
+
+-- where a pair attains a ceiling, no smaller figure holds
+attained : {xs : List ℕ} {k amount : ℕ} {role : Role} {d before after : ℕ} (ceiling : ℕ) → Pair xs k amount role d before after → 0 < d → ceiling * d ≡ gap before after → NoLower role ceiling
+attained {xs} {k} {amount} {role} {d} {before} {after} ceiling p some e figure l holds =
+    let m = holds xs (set xs k amount) k (lentRows 23) (lentRows 22) [] [] (p .alike) (p .role-is) (p .first-accepted) (p .second-accepted) .1 in
+    let n : gap before after ≤ figure * d = rw (p .first-row, p .second-row, p .units-are, whole-apart before after) at m in
+    omega (arith, mul-le-mul-right d l)
+
+pub lowest-ceilings : LowestCeilings
+lowest-ceilings = record {
+  of-carrying = attained _ (pairs-move .of-carrying) (omega arith) refl;
+  of-commitment = attained _ (pairs-move .of-commitment) (omega arith) refl;
+  of-value = attained _ (pairs-move .of-trade) (omega arith) refl;
+  of-lent = attained _ (pairs-move .of-lent) (omega arith) refl;
+  of-lent-further = attained _ (pairs-move .of-lent-further) (omega arith) refl;
+  of-netted-value = attained _ (pairs-move .of-netted-value) (omega arith) refl;
+}
