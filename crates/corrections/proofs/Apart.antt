@@ -35,7 +35,7 @@ below-apart m zero = omega (arith, abs-sub 0 (suc m))
 below-apart m (suc n) = omega arith
 
 -- two differences
-pub differences-apart : (g l g′ l′ : ℕ) → apart (subℕ g l) (subℕ g′ l′) ≡ gap (g + l′) (g′ + l)
+differences-apart : (g l g′ l′ : ℕ) → apart (subℕ g l) (subℕ g′ l′) ≡ gap (g + l′) (g′ + l)
 differences-apart g l g′ l′ = go (decLt g l) (decLt g′ l′)
   where
     go : Dec (g < l) → Dec (g′ < l′) → apart (subℕ g l) (subℕ g′ l′) ≡ gap (g + l′) (g′ + l)

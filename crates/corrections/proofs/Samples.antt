@@ -5,6 +5,7 @@ use mathlib.Core.Path.{_≡_, refl, sym}
 use mathlib.Core.List.{List, [], flatMap}
 use native.Mathlib.Omega.{arith}
 use native.Mathlib.Nat.{mul-le-mul-right}
+use lib.IntN.{pos}
 use lib.ListN.{length, set, length-set}
 use lib.Seq.{getD-set-other}
 use Rattle.rules.specs.Word.{word, kindOf, gainOf, lossOf}
@@ -20,29 +21,39 @@ use Rattle.rules.specs.Weigh.{tradeAddOn, sortedDown, basketAddOn, writtenAddOn
 use Rattle.rules.specs.Rows.{assetRows, sumsOf, rowsOf}
 use Rattle.rules.specs.Register.{drawsFrom, drawsOf, drawsOver, unfitFor, drawFault, settle}
 use Rattle.rules.specs.Filing.{recordsOutcome, admission, outcomeOf, filing}
-use Rattle.cuts.specs.Words.{OneAmount}
-use Rattle.corrections.specs.Roles.{Role}
-use Rattle.corrections.specs.Claims.{NoLower, LowestCeilings}
+use Rattle.rules.specs.TwoDesks.{exposureIn}
+use Rattle.corrections.specs.Roles.{Role, roleAt}
+use Rattle.corrections.specs.Claims.{units, NoLower, LowestCeilings}
 use Rattle.corrections.specs.Pairs.{lentRows, Pair, PairsMove}
 use Rattle.corrections.proofs.Apart.{gap, whole-apart}
 
 -- a book with another amount at a place is equal to it but for that
-other-amount : (xs : List ℕ) (k amount : ℕ) → k < length xs → kindOf (word xs k) ≡ 0 → kindOf (word (set xs k amount) k) ≡ 0 → OneAmount xs (set xs k amount) k
-other-amount xs k amount l e f = record { long = sym (length-set xs k amount); there = l; first = e; second = f; others = λ i n. sym (getD-set-other xs k i amount 0 n) }
+made : {xs : List ℕ} {k amount : ℕ} {role : Role} {d before after : ℕ} → k < length xs → kindOf (word xs k) ≡ 0 → kindOf (word (set xs k amount) k) ≡ 0
+    → roleAt xs k ≡ role → units xs (set xs k amount) k ≡ d → filing xs (lentRows 23) [] .number ≡ 0 → filing (set xs k amount) (lentRows 22) [] .number ≡ 0
+    → exposureIn (filing xs (lentRows 23) []) ≡ pos before → exposureIn (filing (set xs k amount) (lentRows 22) []) ≡ pos after → Pair xs k amount role d before after
+made {xs} {k} {amount} l e f r u a b x y = record {
+  alike = record { long = sym (length-set xs k amount); there = l; first = e; second = f; others = λ i n. sym (getD-set-other xs k i amount 0 n) };
+  role-is = r;
+  units-are = u;
+  first-accepted = a;
+  second-accepted = b;
+  first-row = x;
+  second-row = y;
+}
 
 pub pairs-move : PairsMove
 unfolding gainOf lossOf runFrom cause assetFault derivativeSetFault tradeFault basketFault writtenFault financingSetFault financingTradeFault offBalanceFault leapDays daysOf after dateIn dateOf dayOf later bandsOf headFaulty dateFaulty reportingDate headOf lacks recordThen assetAt assetTurn coverTurn writtenAt writtenTurn tradeAt tradeTurn basketAt basketTurn memberTurn derivativeSetAt derivativeSetTurn financingTradeAt financingTradeTurn financingMemberTurn financingSetAt financingSetTurn offBalanceAt offBalanceTurn itemOf endFault itemTurn protectionsOf itemsOf marketFactor tradeFactor conversionOf weightedOf tradeAddOn sortedDown basketAddOn writtenAddOn keptIn tallyOf replacementOf weightedIn sumBelow cashNetted excessOf assetRows sumsOf rowsOf drawsFrom drawsOf drawsOver unfitFor drawFault settle recordsOutcome admission outcomeOf filing flatMap
 pairs-move = record {
-  of-carrying = record { alike = other-amount _ 4 30 (omega arith) refl refl; role-is = refl; units-are = refl; first-accepted = refl; second-accepted = refl; first-row = refl; second-row = refl };
-  of-commitment = record { alike = other-amount _ 4 20 (omega arith) refl refl; role-is = refl; units-are = refl; first-accepted = refl; second-accepted = refl; first-row = refl; second-row = refl };
-  of-trade = record { alike = other-amount _ 8 10 (omega arith) refl refl; role-is = refl; units-are = refl; first-accepted = refl; second-accepted = refl; first-row = refl; second-row = refl };
-  of-credit = record { alike = other-amount _ 8 0 (omega arith) refl refl; role-is = refl; units-are = refl; first-accepted = refl; second-accepted = refl; first-row = refl; second-row = refl };
-  of-basket = record { alike = other-amount _ 13 10 (omega arith) refl refl; role-is = refl; units-are = refl; first-accepted = refl; second-accepted = refl; first-row = refl; second-row = refl };
-  of-lent = record { alike = other-amount _ 9 30 (omega arith) refl refl; role-is = refl; units-are = refl; first-accepted = refl; second-accepted = refl; first-row = refl; second-row = refl };
-  of-lent-netted = record { alike = other-amount _ 9 20 (omega arith) refl refl; role-is = refl; units-are = refl; first-accepted = refl; second-accepted = refl; first-row = refl; second-row = refl };
-  of-lent-further = record { alike = other-amount _ 9 30 (omega arith) refl refl; role-is = refl; units-are = refl; first-accepted = refl; second-accepted = refl; first-row = refl; second-row = refl };
-  across-zero = record { alike = other-amount _ 8 5 (omega arith) refl refl; role-is = refl; units-are = refl; first-accepted = refl; second-accepted = refl; first-row = refl; second-row = refl };
-  of-netted-value = record { alike = other-amount _ 13 0 (omega arith) refl refl; role-is = refl; units-are = refl; first-accepted = refl; second-accepted = refl; first-row = refl; second-row = refl };
+  of-carrying = made (omega arith) refl refl refl refl refl refl refl refl;
+  of-commitment = made (omega arith) refl refl refl refl refl refl refl refl;
+  of-trade = made (omega arith) refl refl refl refl refl refl refl refl;
+  of-credit = made (omega arith) refl refl refl refl refl refl refl refl;
+  of-basket = made (omega arith) refl refl refl refl refl refl refl refl;
+  of-lent = made (omega arith) refl refl refl refl refl refl refl refl;
+  of-lent-netted = made (omega arith) refl refl refl refl refl refl refl refl;
+  of-lent-further = made (omega arith) refl refl refl refl refl refl refl refl;
+  across-zero = made (omega arith) refl refl refl refl refl refl refl refl;
+  of-netted-value = made (omega arith) refl refl refl refl refl refl refl refl;
 }
 
 -- where a pair attains a ceiling, no smaller figure holds
