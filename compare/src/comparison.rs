@@ -1,9 +1,9 @@
 //! The model against another implementation, on the same books and buffers, and
-//! both against what must hold of every filing, on two desks and with further
-//! covers.
+//! both against what must hold of every filing, on two desks, with further covers
+//! and with one amount corrected.
 
 use crate::filing::{hexadecimal, Buffers, Counts, Filing, Lengths, Pairs};
-use crate::generate::{self, further_covers, more_marks, Random};
+use crate::generate::{self, corrections, further_covers, more_marks, Correction, Random};
 use crate::model::Answer;
 use crate::reached::Reached;
 use crate::{laws, model};
@@ -36,6 +36,15 @@ pub fn run(peer: Peer, books: u64, seed: u64) -> Result<(), String> {
     sides.reached.complete()
 }
 
+/// A book as it was filed, with the buffers as that left them; the second book of
+/// each of its pairs is filed in these.
+struct First {
+    book: Vec<u32>,
+    lengths: Lengths,
+    answer: Answer,
+    left: Buffers,
+}
+
 /// Each side keeps its own buffers, which start equal and must stay so.
 struct Sides {
     peer: Peer,
@@ -64,20 +73,30 @@ impl Sides {
         self.peer_side = self.model_side.clone();
     }
 
-    /// A book, the same with more marks, and the same with further covers.
+    /// A book and the second books of its pairs. Further covers come last, as they
+    /// alone change the register.
     fn book(&mut self, random: &mut Random) -> Result<(), String> {
         let book = generate::book(random);
         let lengths = Lengths::choose(&book, random);
-        let first = self.file(&book, lengths)?;
-        self.second_desk(&first, &more_marks(&book, random), lengths)?;
-        if first.number == 0 {
-            self.further_covers(&book, lengths, random)?;
+        let before = self.model_side.clone();
+        let answer = self.file(&book, lengths, &before)?;
+        let first = First {
+            book,
+            lengths,
+            answer,
+            left: self.model_side.clone(),
+        };
+        self.second_desk(&first, random)?;
+        if answer.number == 0 {
+            for correction in corrections(&first.book, random) {
+                self.correction(&first, &correction)?;
+            }
+            self.further_covers(&first, random)?;
         }
         Ok(())
     }
 
-    fn file(&mut self, book: &[u32], lengths: Lengths) -> Result<Answer, String> {
-        let before = self.model_side.clone();
+    fn file(&mut self, book: &[u32], lengths: Lengths, before: &Buffers) -> Result<Answer, String> {
         let ours = self.model_side.file(book, lengths, model::file);
         let theirs = self.peer_side.file(book, lengths, self.peer.file);
         self.counts.add(&ours);
@@ -87,7 +106,7 @@ impl Sides {
         } else if let Some(difference) = self.model_side.difference(&self.peer_side) {
             Err(difference)
         } else {
-            laws::filing(book, &ours, &before, &self.model_side, lengths)
+            laws::filing(book, &ours, before, &self.model_side, lengths)
         };
         let name = self.peer.name;
         failed.map(|()| theirs).map_err(|what| {
@@ -96,42 +115,52 @@ impl Sides {
         })
     }
 
-    /// The same book with more marks, in the buffers as the first desk's
-    /// filing leaves them: refused alike, or accepted and no worse.
-    fn second_desk(
-        &mut self,
-        first: &Answer,
-        book: &[u32],
-        lengths: Lengths,
-    ) -> Result<(), String> {
-        let left = self.model_side.clone();
-        let second = self.file(book, lengths)?;
-        self.pairs.more_marks(first);
-        laws::two_desks(first, &left, &second, &self.model_side)
-            .map_err(|what| format!("two desks, {what}; second desk\n{}", hexadecimal(book)))
+    /// Files the second book of a pair in the buffers as the first left them. Only
+    /// the rows are put back: the register is still the same, as long as no
+    /// further covers were filed.
+    fn file_second(&mut self, first: &First, book: &[u32]) -> Result<Answer, String> {
+        for side in [&mut self.model_side, &mut self.peer_side] {
+            side.rows.copy_from_slice(&first.left.rows);
+        }
+        self.file(book, first.lengths, &first.left)
     }
 
-    /// The same book with further covers where any fits, in the buffers as a
-    /// filing of the book leaves them. It is filed again for that, since its rows
-    /// are no longer there; the register is, as marks do not change it.
-    fn further_covers(
-        &mut self,
-        book: &[u32],
-        lengths: Lengths,
-        random: &mut Random,
-    ) -> Result<(), String> {
-        let Some(further) = further_covers(book, &self.model_side.register, random) else {
+    /// The same book with more marks: refused alike, or accepted and no worse.
+    fn second_desk(&mut self, first: &First, random: &mut Random) -> Result<(), String> {
+        let book = more_marks(&first.book, random);
+        let second = self.file_second(first, &book)?;
+        self.pairs.more_marks(&first.answer);
+        laws::two_desks(&first.answer, &first.left, &second, &self.model_side)
+            .map_err(|what| format!("two desks, {what}; second desk\n{}", hexadecimal(&book)))
+    }
+
+    /// The same book with one amount corrected.
+    fn correction(&mut self, first: &First, correction: &Correction) -> Result<(), String> {
+        let second = self.file_second(first, &correction.book)?;
+        let (amount, distance) = (correction.amount, correction.distance());
+        let (left, side) = (&first.left, &self.model_side);
+        let moved = side.rows[20] - left.rows[20];
+        self.pairs.correction(amount);
+        self.reached.correction(correction, moved);
+        laws::correction(&first.answer, left, &second, side, amount, distance).map_err(|what| {
+            let (record, before, after) = (correction.record, correction.before, correction.after);
+            let change = format!("{amount:?} of record {record} from {before} to {after}");
+            let words = hexadecimal(&correction.book);
+            format!("{change}, {what}; corrected\n{words}")
+        })
+    }
+
+    /// The same book with further covers, where any fits.
+    fn further_covers(&mut self, first: &First, random: &mut Random) -> Result<(), String> {
+        let Some(further) = further_covers(&first.book, &first.left.register, random) else {
             return Ok(());
         };
-        let first = self.file(book, lengths)?;
-        let left = self.model_side.clone();
-        let second = self.file(&further.book, lengths)?;
+        let second = self.file_second(first, &further.book)?;
         self.pairs.further_covers();
-        laws::further_covers(&first, &left, &second, &self.model_side, &further.drawn).map_err(
-            |what| {
-                let words = hexadecimal(&further.book);
-                format!("further covers, {what}; with them\n{words}")
-            },
-        )
+        let (left, side) = (&first.left, &self.model_side);
+        laws::further_covers(&first.answer, left, &second, side, &further.drawn).map_err(|what| {
+            let words = hexadecimal(&further.book);
+            format!("further covers, {what}; with them\n{words}")
+        })
     }
 }

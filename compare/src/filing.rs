@@ -1,6 +1,9 @@
 //! Dirty buffers, lent to one filing after another.
 
-use crate::generate::Random;
+#[cfg(test)]
+mod tests;
+
+use crate::generate::{Amount, Random};
 use crate::model::{Answer, Entry, ROWS};
 
 const MOST_ROWS: usize = 40;
@@ -72,11 +75,27 @@ impl Buffers {
             let (ours, theirs) = (self.rows[index], other.rows[index]);
             return Some(format!("row {}: {ours} against {theirs}", index + 1));
         }
+        if same_entries(&self.register, &other.register) {
+            return None;
+        }
         let mut entries = self.register.iter().zip(&other.register);
         let index = entries.position(|(ours, theirs)| ours != theirs)?;
         let (ours, theirs) = (self.register[index], other.register[index]);
         Some(format!("entry {index}: {ours:?} against {theirs:?}"))
     }
+}
+
+/// Whether two registers are the same. No branch hangs on any entry, so that
+/// several are compared at once: much of a run goes into this.
+pub fn same_entries(ours: &[Entry], theirs: &[Entry]) -> bool {
+    let differing = |(ours, theirs): (&Entry, &Entry)| {
+        (ours.entity ^ theirs.entity)
+            | (ours.rank ^ theirs.rank)
+            | (ours.days ^ theirs.days)
+            | (ours.left ^ theirs.left)
+    };
+    let bits = ours.iter().zip(theirs).map(differing);
+    ours.len() == theirs.len() && bits.fold(0, |all, bits| all | bits) == 0
 }
 
 pub type Filing = fn(&[u32], &mut [i64], &mut [Entry]) -> Answer;
@@ -131,6 +150,8 @@ pub struct Pairs {
     accepted_marks: u64,
     refused_marks: u64,
     further_covers: u64,
+    bounded_corrections: u64,
+    netted_corrections: u64,
 }
 
 impl Pairs {
@@ -146,10 +167,22 @@ impl Pairs {
         self.further_covers += 1;
     }
 
+    /// A book and the same with this amount corrected, which has a ceiling or not.
+    pub fn correction(&mut self, amount: Amount) {
+        match amount.ceiling() {
+            Some(_) => self.bounded_corrections += 1,
+            None => self.netted_corrections += 1,
+        }
+    }
+
     pub fn print(&self) {
         let [accepted, refused] = [self.accepted_marks, self.refused_marks];
         println!("pairs with more marks: accepted {accepted}, refused {refused}");
         println!("pairs with further covers: {}", self.further_covers);
+        let [bounded, netted] = [self.bounded_corrections, self.netted_corrections];
+        println!(
+            "pairs with one amount corrected: with a ceiling {bounded}, netted values {netted}"
+        );
     }
 
     /// That pairs of each sort came.
@@ -158,6 +191,8 @@ impl Pairs {
             (self.accepted_marks, "accepted pair with more marks"),
             (self.refused_marks, "refused pair with more marks"),
             (self.further_covers, "pair with further covers"),
+            (self.bounded_corrections, "correction with a ceiling"),
+            (self.netted_corrections, "correction of a netted value"),
         ] {
             if count == 0 {
                 return Err(format!("no {sort} came"));

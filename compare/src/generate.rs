@@ -1,6 +1,7 @@
 //! Seeded books: valid ones, damaged ones, and the second ones of pairs, with
-//! more marks or with further covers.
+//! more marks, with further covers or with one amount corrected.
 
+mod corrections;
 mod covers;
 mod damage;
 mod dates;
@@ -10,6 +11,7 @@ mod random;
 mod tests;
 mod valid;
 
+pub use corrections::{corrections, Amount, Correction};
 pub use covers::further_covers;
 pub use marks::more_marks;
 pub use random::Random;

@@ -1,7 +1,11 @@
 //! What holds of every filing, of two filings on two desks, and of two where the
-//! second book has further covers.
+//! second book has further covers or one amount corrected.
 
-use crate::filing::{Buffers, Lengths};
+mod corrections;
+
+pub use corrections::{correction, CEILING};
+
+use crate::filing::{same_entries, Buffers, Lengths};
 use crate::model::{Answer, Entry, FIRST_RECORD, ROWS};
 
 fn ensure(holds: bool, what: &str) -> Result<(), String> {
@@ -33,7 +37,7 @@ pub fn filing(
     };
     let (lent, beyond) = after.register.split_at(protections);
     ensure(
-        beyond == &before.register[protections..],
+        same_entries(beyond, &before.register[protections..]),
         "entries from b on stay",
     )?;
     if answer.number != 0 {
@@ -79,6 +83,25 @@ fn conserved(book: &[u32], register: &[Entry]) -> Result<(), String> {
     ensure(all, "covers and what is left come to what was available")
 }
 
+fn same_answer(first: &Answer, second: &Answer) -> Result<(), String> {
+    let ours = (first.number, first.place);
+    ensure(ours == (second.number, second.place), "another answer")
+}
+
+fn same_register(first_side: &Buffers, second_side: &Buffers) -> Result<(), String> {
+    let same = same_entries(&first_side.register, &second_side.register);
+    ensure(same, "another register")
+}
+
+/// Of two accepted books: that no row changes but these, counted from 1.
+fn others_stay(before: &[i64], after: &[i64], rows: &[usize]) -> Result<(), String> {
+    let changed = |row: &usize| before[row - 1] != after[row - 1] && !rows.contains(row);
+    if let Some(row) = (1..=ROWS).find(changed) {
+        return Err(format!("another row {row}"));
+    }
+    ensure(before[ROWS..] == after[ROWS..], "rows behind the last stay")
+}
+
 /// More marks change neither whether a book is refused nor why, and they never
 /// raise the exposure.
 pub fn two_desks(
@@ -87,12 +110,8 @@ pub fn two_desks(
     second: &Answer,
     second_side: &Buffers,
 ) -> Result<(), String> {
-    let ours = (first.number, first.place);
-    ensure(ours == (second.number, second.place), "another answer")?;
-    ensure(
-        first_side.register == second_side.register,
-        "another register",
-    )?;
+    same_answer(first, second)?;
+    same_register(first_side, second_side)?;
     if first.number != 0 {
         return Ok(());
     }
@@ -113,9 +132,8 @@ fn no_worse(first: &Answer, before: &[i64], second: &Answer, after: &[i64]) -> R
     Ok(())
 }
 
-/// Rows that no cover enters, counted from 1. It enters 8 and 10, and through
-/// them 11, 21 and 22.
-const WITHOUT_COVERS: [usize; 17] = [1, 2, 3, 4, 5, 6, 7, 9, 12, 13, 14, 15, 16, 17, 18, 19, 20];
+/// Rows that a cover enters: 8 and 10, and through them 11, 21 and 22.
+const WITH_COVERS: [usize; 5] = [8, 10, 11, 21, 22];
 
 /// A unit of further cover takes 1,000 thousandths off the exposure and brings
 /// back at most 100, since no add-on is above 100 for a unit of its notional.
@@ -131,14 +149,9 @@ pub fn further_covers(
     second_side: &Buffers,
     drawn: &[u32],
 ) -> Result<(), String> {
-    let ours = (first.number, first.place);
-    ensure(ours == (second.number, second.place), "another answer")?;
+    same_answer(first, second)?;
     let (before, after) = (&first_side.rows, &second_side.rows);
-    let changed = |row: &&usize| before[**row - 1] != after[**row - 1];
-    if let Some(row) = WITHOUT_COVERS.iter().find(changed) {
-        return Err(format!("another row {row}"));
-    }
-    ensure(before[ROWS..] == after[ROWS..], "rows behind the last stay")?;
+    others_stay(before, after, &WITH_COVERS)?;
     sums(after)?;
     let units: i64 = drawn.iter().copied().map(i64::from).sum();
     let fall = before[20] - after[20];

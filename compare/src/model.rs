@@ -16,6 +16,8 @@ mod tests;
 mod weighing;
 mod words;
 
+pub use words::kinds;
+
 use audit::Audit;
 use head::Head;
 use refusal::{Cause, Refusal};

@@ -1,9 +1,10 @@
-//! What accepted books make use of, and how heads and baskets are refused. Each
-//! thing on the list is counted, and one that never came is a fault of the
-//! generator.
+//! What accepted books make use of, what corrections of them do, and how heads and
+//! baskets are refused. Each thing on the list is counted, and one that never came
+//! is a fault of the generator.
 
 mod bands;
 mod baskets;
+mod corrections;
 mod covers;
 mod heads;
 mod kept;
@@ -36,8 +37,8 @@ pub struct Reached(BTreeMap<Feature, u64>);
 
 impl Default for Reached {
     fn default() -> Self {
-        let refused = heads::list().into_iter().chain(refused_baskets::list());
-        Reached::listing(uses().into_iter().chain(refused))
+        let others = [corrections::list(), heads::list(), refused_baskets::list()];
+        Reached::listing(uses().into_iter().chain(others.concat()))
     }
 }
 
@@ -49,7 +50,16 @@ struct Record<'a> {
     amounts: &'a [u32],
 }
 
-impl Record<'_> {
+impl<'a> Record<'a> {
+    fn at(book: &'a [u32], place: usize) -> Self {
+        let word = book[place];
+        Record {
+            kind: word >> 28,
+            payload: word & 0x0FFF_FFFF,
+            amounts: &book[place + 1..][..amounts(word)],
+        }
+    }
+
     fn field(&self, low: u32, width: u32) -> u32 {
         self.payload >> low & ((1 << width) - 1)
     }
@@ -57,15 +67,11 @@ impl Record<'_> {
 
 fn records(book: &[u32]) -> Vec<Record<'_>> {
     let mut records = Vec::new();
-    let mut rest = book;
-    while let [head, behind @ ..] = rest {
-        let (amounts, next) = behind.split_at(amounts(*head));
-        records.push(Record {
-            kind: head >> 28,
-            payload: head & 0x0FFF_FFFF,
-            amounts,
-        });
-        rest = next;
+    let mut place = 0;
+    while place < book.len() {
+        let record = Record::at(book, place);
+        place += 1 + record.amounts.len();
+        records.push(record);
     }
     records
 }
@@ -128,7 +134,7 @@ impl Reached {
     pub fn print(&self) {
         let least = self.0.values().min().copied().unwrap_or_default();
         let features = self.0.len();
-        println!("records, marks, classes, dates, bands, covers, baskets, amounts, refused heads and baskets: {features} on the list, each {least} times or more");
+        println!("records, marks, classes, dates, bands, covers, baskets, amounts, corrections, refused heads and baskets: {features} on the list, each {least} times or more");
     }
 
     fn came(&mut self, name: &'static str, numbers: [u32; 3]) {

@@ -1,10 +1,11 @@
 //! That the books are what they are meant to be, and reach what they should.
 
+mod corrections;
 mod covers;
 
 use std::collections::BTreeMap;
 
-use super::{book, more_marks, valid, Random};
+use super::{amounts, book, more_marks, valid, Random};
 use crate::filing::NUMBERS;
 use crate::model::{file, Entry, ROWS};
 use crate::reached::Reached;
@@ -12,6 +13,16 @@ use crate::reached::Reached;
 fn number(words: &[u32]) -> u32 {
     let mut register = vec![Entry::default(); 4_096];
     file(words, &mut [0; ROWS], &mut register).number
+}
+
+fn records(mut book: &[u32]) -> Vec<&[u32]> {
+    let mut records = Vec::new();
+    while let [first, ..] = book {
+        let (record, behind) = book.split_at(1 + amounts(*first));
+        records.push(record);
+        book = behind;
+    }
+    records
 }
 
 #[test]

@@ -3,6 +3,7 @@
 mod bands;
 mod baskets;
 mod calendar;
+mod corrections;
 mod covers;
 mod refusals;
 mod samples;

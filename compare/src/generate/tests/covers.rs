@@ -1,6 +1,7 @@
 //! That further covers are covers and nothing else, and come just where they fit.
 
-use super::super::{amounts, correct_count, further_covers, valid, word, Random};
+use super::super::{correct_count, further_covers, valid, word, Random};
+use super::records;
 use crate::model::{file, Entry, LONGEST_BOOK, ROWS};
 
 /// The register as the filing of a book leaves it, which must be accepted.
@@ -8,16 +9,6 @@ fn filed(book: &[u32]) -> Vec<Entry> {
     let mut register = vec![Entry::default(); 4_096];
     assert_eq!(file(book, &mut [0; ROWS], &mut register).number, 0);
     register
-}
-
-fn records(mut book: &[u32]) -> Vec<&[u32]> {
-    let mut records = Vec::new();
-    while let [first, ..] = book {
-        let (record, behind) = book.split_at(1 + amounts(*first));
-        records.push(record);
-        book = behind;
-    }
-    records
 }
 
 #[test]

@@ -1,0 +1,122 @@
+//! That the law of corrections refuses what is beyond it, by one thousandth too.
+
+use super::correction;
+use crate::filing::Buffers;
+use crate::generate::Amount;
+use crate::model::{Answer, Entry, ROWS};
+
+const FIRST: Answer = Answer {
+    number: 0,
+    place: 0,
+    verdict: 1,
+};
+
+const DISTANCE: i64 = 3;
+
+const CARRYING: Amount = Amount::Carrying { fiduciary: false };
+const FIDUCIARY: Amount = Amount::Carrying { fiduciary: true };
+const PRINCIPAL: Amount = lent(false, false);
+const AGENT: Amount = lent(true, false);
+const FURTHER: Amount = lent(true, true);
+
+const fn value(netted: bool, exempt: bool) -> Amount {
+    Amount::Value { netted, exempt }
+}
+
+const fn lent(agent: bool, further: bool) -> Amount {
+    Amount::Lent { agent, further }
+}
+
+/// Buffers with so much more in this row, counted from 1, and in those that are
+/// sums of it.
+fn with(row: usize, more: i64) -> Buffers {
+    let mut rows = vec![0; ROWS + 1];
+    rows[3] = 1_000_000;
+    rows[row - 1] += more;
+    rows[2] += rows[..2].iter().sum::<i64>();
+    rows[10] += rows[3..10].iter().sum::<i64>();
+    rows[15] += rows[11..15].iter().sum::<i64>();
+    rows[18] += rows[16..18].iter().sum::<i64>();
+    rows[20] += rows[2] + rows[10] + rows[15] + rows[18];
+    Buffers {
+        rows,
+        register: vec![Entry::default(); 2],
+    }
+}
+
+fn held(amount: Amount, after: &Buffers) -> Result<(), String> {
+    correction(&FIRST, &with(1, 0), &FIRST, after, amount, DISTANCE)
+}
+
+#[test]
+fn ceilings_are_attained_and_not_passed() {
+    for (amount, row, ceiling) in [
+        (CARRYING, 1, 1_000),
+        (Amount::OffBalance, 17, 1_000),
+        (value(false, false), 4, 1_000),
+        (PRINCIPAL, 14, 1_000),
+        (AGENT, 15, 1_000),
+        (FURTHER, 15, 2_000),
+    ] {
+        let most = ceiling * DISTANCE;
+        for moved in [most, -most, 0, 1] {
+            assert_eq!(held(amount, &with(row, moved)), Ok(()), "{amount:?}");
+        }
+        for moved in [most + 1, -most - 1] {
+            let failed = held(amount, &with(row, moved));
+            assert_eq!(failed, Err("row 21 moves too far".to_string()));
+        }
+    }
+}
+
+#[test]
+fn netted_values_have_no_ceiling() {
+    for moved in [900_000_000, -900_000] {
+        assert_eq!(held(value(true, false), &with(5, moved)), Ok(()));
+    }
+}
+
+#[test]
+fn rows_without_the_amount_stay() {
+    for (amount, row, changed) in [
+        (CARRYING, 2, 2),
+        (FIDUCIARY, 1, 1),
+        (Amount::OffBalance, 1, 1),
+        (value(false, false), 5, 5),
+        (value(false, false), 8, 8),
+        (value(true, false), 8, 8),
+        // Rows 4 and 8 of an exempt set move against each other.
+        (value(false, true), 4, 11),
+        (value(true, true), 5, 11),
+        (PRINCIPAL, 15, 15),
+        (AGENT, 14, 14),
+        (FURTHER, 14, 14),
+        (AGENT, 13, 13),
+        (AGENT, 20, 20),
+    ] {
+        let failed = held(amount, &with(row, 1));
+        let expected = format!("another row {changed}");
+        assert_eq!(failed, Err(expected), "{amount:?}");
+    }
+    let behind = with(ROWS + 1, 1);
+    let failed = held(CARRYING, &behind);
+    assert_eq!(failed, Err("rows behind the last stay".to_string()));
+}
+
+#[test]
+fn answer_register_and_sums_are_held() {
+    let failed = |second: &Answer, after: &Buffers| {
+        correction(&FIRST, &with(1, 0), second, after, CARRYING, DISTANCE).unwrap_err()
+    };
+    let refused = Answer { number: 9, ..FIRST };
+    assert_eq!(failed(&refused, &with(1, 0)), "another answer");
+    let mut drawn = with(1, 0);
+    drawn.register[1].left = 1;
+    assert_eq!(failed(&FIRST, &drawn), "another register");
+    assert_eq!(failed(&FIRST, &with(21, 1)), "row 21 is 3, 11, 16 and 19");
+    let passing = Answer {
+        verdict: 0,
+        ..FIRST
+    };
+    assert_eq!(failed(&passing, &with(1, 1)), "verdict 0 lost");
+}

@@ -1,0 +1,83 @@
+//! How far one amount moves row 21: request A.4 and its own pair of books.
+
+use super::*;
+
+const EXEMPT: u32 = 1 << 5;
+const AGENT: u32 = 1 << 1;
+const FURTHER_EXPOSURE: u32 = 1 << 2;
+
+/// Row 21 of a book in which one amount is another.
+fn moved(book: impl Fn(i32) -> Book, before: i32, after: i32) -> i64 {
+    book(after).rows().row(21) - book(before).rows().row(21)
+}
+
+fn set(marks: u32) -> Book {
+    Book::new(0, 0).add(4, marks, &[0, 0, 0])
+}
+
+#[test]
+fn netted_value_has_no_ceiling() {
+    let row_21 = |second: i32| {
+        let trade = set(NETTING).trade(1, 1, 100_000, 365);
+        trade.trade(1, second, 0, 365).rows().row(21)
+    };
+    assert_eq!([row_21(-1), row_21(0)], [400_000, 1_001_000]);
+    // Back from a gain to nothing, the whole add-on counts: G is 0.
+    let gain = |value: i32| set(NETTING).trade(1, value, 100_000, 365);
+    let beside_a_loss = |value: i32| gain(value).trade(1, -9, 0, 365);
+    assert_eq!(moved(beside_a_loss, 1, 0), 600_000);
+}
+
+#[test]
+fn value_without_netting() {
+    let by_kind: [fn(Book, i32) -> Book; 3] = [
+        |set, value| set.trade(1, value, 100_000, 365),
+        |set, value| set.add(6, 0, &[value, 100_000, 0, 365, 0]),
+        |set, value| set.basket(1, [value, 100_000], &[9, 10]),
+    ];
+    for member in by_kind {
+        // Margin marks mean nothing without netting.
+        for marks in [0, ALL_MARGIN_MARKS & !NETTING] {
+            let beside_a_gain = |value: i32| member(set(marks), value).trade(1, 7, 0, 0);
+            assert_eq!(moved(beside_a_gain, 5, 8), 3_000);
+            assert_eq!(moved(beside_a_gain, -5, 5), 5_000);
+            assert_eq!(moved(beside_a_gain, 5, -5), -5_000);
+            assert_eq!(moved(beside_a_gain, -5, -1), 0);
+        }
+        assert_eq!(moved(|value| member(set(EXEMPT), value), -5, 5), 0);
+    }
+}
+
+#[test]
+fn carrying_amount_and_off_balance_notional() {
+    let asset = |marks: u32| move |carrying: i32| Book::new(0, 0).add(2, marks, &[carrying, 2, 3]);
+    assert_eq!(moved(asset(0), 5, 8), 3_000);
+    assert_eq!(moved(asset(0), 8, 5), -3_000);
+    assert_eq!(moved(asset(1), 5, 8), 0);
+    let item = |classes: u32| move |notional: i32| Book::new(0, 0).add(10, classes, &[notional]);
+    assert_eq!(moved(item(3), 5, 8), 3_000);
+    assert_eq!(moved(item(1), 8, 5), -1_500);
+    // A credit substitute committed to as cancellable: the lower counts.
+    assert_eq!(moved(item(3 | 3 << 4), 5, 8), 300);
+}
+
+#[test]
+fn value_lent() {
+    for netting in [0, NETTING] {
+        let lent = |marks: u32| {
+            move |lent: i32| {
+                let set = Book::new(0, 0).add(8, netting | marks, &[]);
+                set.add(9, 0, &[0, 0, 0, 0, lent, 6, 0])
+            }
+        };
+        for marks in [0, AGENT] {
+            assert_eq!(moved(lent(marks), 6, 9), 3_000);
+            assert_eq!(moved(lent(marks), 9, 5), -3_000);
+            assert_eq!(moved(lent(marks), 6, 3), 0);
+        }
+        let further = lent(AGENT | FURTHER_EXPOSURE);
+        assert_eq!(moved(further, 6, 9), 6_000);
+        assert_eq!(moved(further, 9, 5), -7_000);
+        assert_eq!(moved(further, 3, 6), 3_000);
+    }
+}
