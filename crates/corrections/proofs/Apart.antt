@@ -1,14 +1,16 @@
 -- How far two numbers are apart, and two sums over lists that are equal but in one place. Assumes nothing.
-use Prim.Native.Nat.{ℕ, zero, suc, _+_, _-_, min, _≤_, _<_}
-use mathlib.Core.Path.{_≡_}
+use Prim.Native.Nat.{ℕ, suc, _+_, _-_, min, _≤_, _<_}
+use mathlib.Core.Path.{_≡_, _∙_, ap}
 use mathlib.Core.Bool.{Bool, true, false, cond}
 use mathlib.Core.List.{List, [], _∷_, _++_}
 use native.Mathlib.Omega.{arith}
 use native.Mathlib.Decide.{decLt}
 use borrow.Author.Tests.{lt-ltb, le-ltb}
-use lib.IntN.{pos, negsuc, natAbs, subℕ}
+use lib.IntN.{ℤ, pos, negsuc, natAbs, negℤ, subℕ}
+use lib.Signed.{≤ℤ-refl}
 use Rattle.rules.specs.Word.{bitOf, sizeOf, gainOf, lossOf}
 use Rattle.rules.specs.Book.{total}
+use Rattle.rules.proofs.Differences.{Difference, of-pos, of-minus, of-sub, as-difference, plus, in-order}
 use Rattle.cuts.proofs.Steps.{OneOther}
 use Rattle.corrections.specs.Claims.{apart, signedOf}
 
@@ -16,7 +18,7 @@ use Rattle.corrections.specs.Claims.{apart, signedOf}
 abbrev pub gap : ℕ → ℕ → ℕ
 gap m n = (m - n) + (n - m)
 
--- ---- whole numbers, by their signs
+-- ---- whole numbers
 
 abs-sub : (m n : ℕ) → natAbs (subℕ m n) ≡ gap m n
 abs-sub m n = go (decLt m n)
@@ -25,24 +27,17 @@ abs-sub m n = go (decLt m n)
     go (yes h) = rw (lt-ltb m n h) (omega arith)
     go (no h) = rw (le-ltb m n (omega arith)) (omega arith)
 
+opposite : (z : ℤ) {a b : ℕ} → Difference z a b → Difference (negℤ z) b a
+opposite (pos n) d = as-difference _ _ (of-minus n) (omega (arith, in-order d (of-pos n) (≤ℤ-refl (pos n)), in-order (of-pos n) d (≤ℤ-refl (pos n))))
+opposite (negsuc n) d =
+    as-difference _ _ (of-pos (suc n)) (omega (arith, in-order d (of-minus (suc n)) (≤ℤ-refl (negsuc n)), in-order (of-minus (suc n)) d (≤ℤ-refl (negsuc n))))
+
+differences-apart : {y z : ℤ} {a b c d : ℕ} → Difference y a b → Difference z c d → apart y z ≡ gap (a + d) (b + c)
+differences-apart {z = z} {a} {b} {c} {d} e f = ap natAbs (plus e (opposite z f) .is) ∙ abs-sub (a + d) (b + c)
+
 -- two that are not negative
 pub whole-apart : (m n : ℕ) → apart (pos m) (pos n) ≡ gap m n
-whole-apart m zero = omega arith
-whole-apart m (suc n) = abs-sub m (suc n)
-
-below-apart : (m n : ℕ) → apart (negsuc m) (pos n) ≡ suc m + n
-below-apart m zero = omega (arith, abs-sub 0 (suc m))
-below-apart m (suc n) = omega arith
-
--- two differences
-differences-apart : (g l g′ l′ : ℕ) → apart (subℕ g l) (subℕ g′ l′) ≡ gap (g + l′) (g′ + l)
-differences-apart g l g′ l′ = go (decLt g l) (decLt g′ l′)
-  where
-    go : Dec (g < l) → Dec (g′ < l′) → apart (subℕ g l) (subℕ g′ l′) ≡ gap (g + l′) (g′ + l)
-    go (yes h) (yes k) = rw (lt-ltb g l h, lt-ltb g′ l′ k) (omega (arith, abs-sub (suc (l′ - suc g′)) (suc (l - suc g))))
-    go (yes h) (no k) = rw (lt-ltb g l h, le-ltb g′ l′ (omega arith)) (omega (arith, below-apart (l - suc g) (g′ - l′)))
-    go (no h) (yes k) = rw (le-ltb g l (omega arith), lt-ltb g′ l′ k) (omega arith)
-    go (no h) (no k) = rw (le-ltb g l (omega arith), le-ltb g′ l′ (omega arith)) (omega (arith, whole-apart (g - l) (g′ - l′)))
+whole-apart m n = omega (arith, differences-apart (of-pos m) (of-pos n))
 
 -- ---- amounts
 
@@ -52,16 +47,19 @@ unfolding gainOf lossOf
 one-sign w = go (bitOf 27 w)
   where
     go : (b : Bool) → (min (cond b 0 (sizeOf w)) (cond b (sizeOf w) 0) ≡ 0) × (cond b 0 (sizeOf w) + cond b (sizeOf w) 0 ≡ sizeOf w)
-    go true = (omega arith, omega arith)
-    go false = (omega arith, omega arith)
+    go true = omega arith
+    go false = omega arith
 
--- so their gains are no further apart than the amounts, and their sizes are not
 module _ (w v : ℕ) where
+  signed-apart : apart (signedOf w) (signedOf v) ≡ gap (gainOf w + lossOf v) (lossOf w + gainOf v)
+  signed-apart = differences-apart (of-sub (gainOf w) (lossOf w)) (of-sub (gainOf v) (lossOf v))
+
+  -- so neither the gains of two amounts nor their sizes are further apart than the amounts
   pub gains-apart : gap (gainOf w) (gainOf v) ≤ apart (signedOf w) (signedOf v)
-  gains-apart = let a = one-sign w in let b = one-sign v in omega (arith, differences-apart (gainOf w) (lossOf w) (gainOf v) (lossOf v), a .0, b .0)
+  gains-apart = omega (arith, signed-apart, one-sign w .0, one-sign v .0)
 
   pub sizes-apart : gap (sizeOf w) (sizeOf v) ≤ apart (signedOf w) (signedOf v)
-  sizes-apart = let a = one-sign w in let b = one-sign v in omega (arith, differences-apart (gainOf w) (lossOf w) (gainOf v) (lossOf v), a .0, b .0, a .1, b .1)
+  sizes-apart = omega (arith, signed-apart, one-sign w .0, one-sign w .1, one-sign v .0, one-sign v .1)
 
 -- ---- sums
 
@@ -81,14 +79,18 @@ pub one-of : {A : Type 0} {Rel : A → A → Type 0} {R S : ℕ → A → ℕ �
 one-of c r = record { before = c .before; first = c .first; second = c .second; after = c .after; related = r; is-first = c .is-first; is-second = c .is-second }
 
 module _ {A : Type 0} {Rel : A → A → Type 0} (f : A → ℕ) {l m : List A} (o : OneOf Rel l m) where
-  -- their sums are no further apart than what they have there
-  pub one-apart : (d : ℕ) → ((a b : A) → Rel a b → gap (f a) (f b) ≤ d) → gap (total f l) (total f m) ≤ d
-  one-apart d h = rw (o .is-first, o .is-second) (go (o .before))
+  -- what the one has more there, its sum has more
+  one-more : total f l + f (o .second) ≡ total f m + f (o .first)
+  one-more = rw (o .is-first, o .is-second) (go (o .before))
     where
-      go : (before : List A) → gap (total f (before ++ o .first ∷ o .after)) (total f (before ++ o .second ∷ o .after)) ≤ d
-      go [] = omega (arith, h (o .first) (o .second) (o .related))
+      go : (before : List A) → total f (before ++ o .first ∷ o .after) + f (o .second) ≡ total f (before ++ o .second ∷ o .after) + f (o .first)
+      go [] = omega arith
       go (x ∷ before) = omega (arith, go before)
+
+  -- so their sums are no further apart than what they have there,
+  pub one-apart : (d : ℕ) → ((a b : A) → Rel a b → gap (f a) (f b) ≤ d) → gap (total f l) (total f m) ≤ d
+  one-apart d h = omega (arith, one-more, h (o .first) (o .second) (o .related))
 
   -- and the same where that is
   pub one-same : ((a b : A) → Rel a b → f a ≡ f b) → total f l ≡ total f m
-  one-same h = omega (arith, one-apart 0 (λ a b r. omega (arith, h a b r)))
+  one-same h = omega (arith, one-more, h (o .first) (o .second) (o .related))

@@ -10,7 +10,7 @@ use Rattle.rules.specs.Book.{asset, offBalance}
 use Rattle.rules.specs.Read.{assetAt, offBalanceAt}
 use Rattle.laws.proofs.Valid.{ValidItem}
 use Rattle.cuts.specs.Words.{OneAmount}
-use Rattle.corrections.specs.Roles.{head, provision, deducted, carrying, commitment, other, itemRoles}
+use Rattle.corrections.specs.Roles.{head, provision, deducted, carrying, offBalanceNotional, other, itemRoles}
 use Rattle.corrections.proofs.Corrected.{Corrected}
 use Rattle.corrections.proofs.Places.{roleIn, spokenOf, only-there}
 
@@ -34,5 +34,5 @@ module _ {xs ys : List ℕ} {k : ℕ} (o : OneAmount xs ys k) where
       → Corrected (word xs k) (word ys k) (roleIn (itemRoles (offBalance (offBalanceAt xs))) k) (offBalance (offBalanceAt xs)) (offBalance (offBalanceAt ys))
   unfolding offBalanceAt
   off-balance-corrected h =
-      let q = only-there (other head ∷ []) (commitment (offBalanceAt xs .class) (offBalanceAt xs .committed)) [] refl refl k h in
+      let q = only-there (other head ∷ []) (offBalanceNotional (offBalanceAt xs .class) (offBalanceAt xs .committed)) [] refl refl k h in
       rw (q .1, q .0, ← beside (q .0) 0 (λ e. omega arith)) (Corrected.of-off-balance (offBalanceAt xs))

@@ -1,7 +1,7 @@
--- Two books that are read without a fault and are equal but for one amount: if a claim speaks of it, they have the same head, the same roles, and all
--- items but one are the same. Assumes nothing.
-use Prim.Native.Nat.{ℕ, _+_, _-_, _*_, _≤_, _<_}
-use mathlib.Core.Path.{_≡_, sym, _∙_, ap}
+-- Two books that are read without a fault and are equal but for one amount: if a claim speaks of it, they have the same head, and all items but one are
+-- the same. Assumes nothing.
+use Prim.Native.Nat.{ℕ, _+_, _-_, _≤_, _<_}
+use mathlib.Core.Path.{_≡_, _∙_}
 use mathlib.Core.Bool.{true}
 use mathlib.Core.List.{List, _∷_, _++_, flatMap}
 use native.Mathlib.Omega.{arith}
@@ -9,18 +9,18 @@ use native.Mathlib.Decide.{decLt}
 use lib.ListN.{length, replicate, length-replicate, List·getD-append}
 use lib.Seq.{getD-drop}
 use Rattle.rules.specs.Word.{word}
-use Rattle.rules.specs.Book.{Head, Placed}
-use Rattle.rules.specs.Read.{firstRecord, headOf, protectionsOf, itemsOf}
+use Rattle.rules.specs.Book.{Placed}
+use Rattle.rules.specs.Read.{headOf, protectionsOf, itemsOf}
 use Rattle.rules.proofs.Lists.{Every}
 use Rattle.laws.proofs.Each.{every-first, every-append}
 use Rattle.laws.proofs.Valid.{ValidPlaced, valid-items}
 use Rattle.cuts.specs.Words.{OneAmount}
 use Rattle.cuts.proofs.Cutting.{itemsBegin, book-cut}
 use Rattle.cuts.proofs.OneAmount.{PlacedOther, one-behind, items-other}
-use Rattle.corrections.specs.Roles.{outside, Role, other, itemRoles, rolesOf, roleAt}
+use Rattle.corrections.specs.Roles.{outside, Role, other, placedRoles, roleAt}
 use Rattle.corrections.proofs.Apart.{OneOf, one-of}
-use Rattle.corrections.proofs.Corrected.{Corrected, corrected-roles}
-use Rattle.corrections.proofs.Places.{roleIn, role-of-other, roles-same, spokenOf, none-there, replicate-none}
+use Rattle.corrections.proofs.Corrected.{Corrected}
+use Rattle.corrections.proofs.Places.{roleIn, role-of-other, spokenOf, none-there, replicate-none}
 use Rattle.corrections.proofs.Counted.{placed-words}
 use Rattle.corrections.proofs.Items.{item-corrected}
 
@@ -29,19 +29,14 @@ there : {A : Type 0} {P : A → Type 0} (before : List A) (a : A) (after : List 
 there before a after e = every-first a after .0 (every-append before (a ∷ after) .0 e .1) .0
 
 -- an item of the one book and that of the other, wherever they stand, by the words at the place
-abbrev pub CorrectedPlaced : (xs ys : List ℕ) (k : ℕ) → Placed → Placed → Type 0
+abbrev CorrectedPlaced : (xs ys : List ℕ) (k : ℕ) → Placed → Placed → Type 0
 CorrectedPlaced xs ys k p q = Corrected (word xs k) (word ys k) (roleAt xs k) (p .item) (q .item)
 
 pub record CorrectedBook (xs ys : List ℕ) (k : ℕ) : Type 0 where
   pub head : headOf xs ≡ headOf ys
-  pub roles : rolesOf xs ≡ rolesOf ys
   pub items : OneOf (CorrectedPlaced xs ys k) (itemsOf xs .records) (itemsOf ys .records)
 
--- the roles of an item in the book
-abbrev placedRoles : Placed → List Role
-placedRoles p = itemRoles (p .item)
-
--- and of the words before the items
+-- the roles of the words before the items
 abbrev frontRoles : List ℕ → List Role
 frontRoles ws = replicate (protectionsOf ws .place) (other outside)
 
@@ -66,17 +61,14 @@ module _ {xs ys : List ℕ} {k : ℕ} (o : OneAmount xs ys k) where
           absurd (none-there (frontRoles xs) (replicate-none (protectionsOf xs .place) outside) k (rw in-front at h))
       go (no l) = omega arith
 
-  -- TWO BOOKS that are read without a fault: the same head, the same roles, and all items but one the same
+  -- TWO BOOKS that are read without a fault: the same head, and all items but one the same
   pub book-corrected : itemsOf xs .number ≡ 0 → itemsOf ys .number ≡ 0 → spokenOf (roleAt xs k) ≡ true → CorrectedBook xs ys k
   book-corrected e f h =
       let x = book-cut xs e in
-      let y = book-cut ys f in
       let t = items-other o e f (among-items (x .behind) h) in
       let s = t .2 in
       let stands = role-of-other placedRoles (placed-words xs) (frontRoles xs) (front-length xs ∙ x .behind) s in
       let v = there (s .before) (s .first) (s .after) (rw (s .is-first) at (valid-items xs)) in
       let w = there (s .before) (s .second) (s .after) (rw (s .is-second) at (valid-items ys)) in
       let c = placed-corrected (s .at) (s .first) (s .second) (s .next) (s .from) (s .step) v w (rw stands at h) in
-      let place : protectionsOf ys .place ≡ protectionsOf xs .place = y .behind ∙ ap (λ (g : Head). firstRecord + 4 * g .protections) (sym (t .0)) ∙ sym (x .behind) in
-      let one : OneOf (CorrectedPlaced xs ys k) (itemsOf xs .records) (itemsOf ys .records) = one-of s (rw stands c) in
-      record { head = t .0; roles = rw (place, ← roles-same placedRoles one (λ p q d. corrected-roles d)); items = one }
+      record { head = t .0; items = one-of s (rw stands c) }

@@ -17,7 +17,7 @@ use Rattle.corrections.proofs.Books.{book-corrected}
 -- a claim speaks of all that has a ceiling
 ceiling-spoken : {role : Role} {ceiling : ℕ} → Ceiling role ceiling → spokenOf role ≡ true
 ceiling-spoken Ceiling.of-carrying = refl
-ceiling-spoken Ceiling.of-commitment = refl
+ceiling-spoken Ceiling.of-off-balance = refl
 ceiling-spoken Ceiling.of-value = refl
 ceiling-spoken Ceiling.of-lent = refl
 ceiling-spoken Ceiling.of-lent-further = refl
@@ -29,7 +29,5 @@ ceilings-hold role ceiling c xs ys k rows rows′ register register′ o r e f =
     let b = filed-as ys rows′ register′ f in
     let t = book-corrected o (a .reading .number) (b .reading .number) (ap spokenOf r ∙ ceiling-spoken c) in
     let bands = headOf xs .bands in
-    let moved = one-apart (λ (p : Placed). exposureOf bands (p .item)) (t .items) (ceiling * units xs ys k) (λ p q d. corrected-ceiling bands (rw r at d) c) in (
-      rw (← t .roles) r,
-      rw (a .exposure, b .exposure, ← t .head, whole-apart (sumOver (exposureOf bands) (itemsOf xs .records)) (sumOver (exposureOf bands) (itemsOf ys .records))) moved,
-    )
+    let moved = one-apart (λ (p : Placed). exposureOf bands (p .item)) (t .items) (ceiling * units xs ys k) (λ p q d. corrected-ceiling bands (rw r at d) c) in
+    rw (a .exposure, b .exposure, ← t .head, whole-apart (sumOver (exposureOf bands) (itemsOf xs .records)) (sumOver (exposureOf bands) (itemsOf ys .records))) moved

@@ -1,50 +1,27 @@
--- Two items that are equal but for one amount, by which amount it is: they have the same roles, and where it has a ceiling, it moves their exposure within
--- that. Assumes nothing.
+-- Two items that are equal but for one amount, by which amount it is: where it has a ceiling, it moves their exposure within that. Assumes nothing.
 use Prim.Native.Nat.{ℕ, _+_, _*_, _≤_}
-use mathlib.Core.Path.{_≡_, refl, sym, _∙_, ap}
-use mathlib.Core.Bool.{Bool}
 use native.Mathlib.Omega.{arith}
 use native.Mathlib.Nat.{mul-le-mul-left}
 use Rattle.rules.specs.declared.Bands.{Bands}
 use Rattle.rules.specs.Word.{sizeOf}
-use Rattle.rules.specs.Book.{Asset, Member, trade, written, basket, DerivativeSet, FinancingSet, OffBalance, Item, asset, derivatives, financing, offBalance}
+use Rattle.rules.specs.Book.{Asset, DerivativeSet, FinancingSet, OffBalance, Item, asset, derivatives, financing, offBalance}
 use Rattle.laws.specs.Exposure.{exposureOf}
-use Rattle.corrections.specs.Roles.{Role, carrying, commitment, value, lent, memberRoles, financingTradeRoles, itemRoles}
+use Rattle.corrections.specs.Roles.{Role, carrying, offBalanceNotional, value, lent}
 use Rattle.corrections.specs.Claims.{Ceiling, apart, signedOf}
 use Rattle.corrections.proofs.Apart.{gap, sizes-apart}
 use Rattle.corrections.proofs.Exact.{carriedAt, carrying-ceiling, ofNotional, notional-ceiling}
-use Rattle.corrections.proofs.Values.{valueless, RevaluedSet, value-ceiling}
+use Rattle.corrections.proofs.Values.{RevaluedSet, value-ceiling}
 use Rattle.corrections.proofs.Lent.{RelentSet, lent-ceiling}
-use Rattle.corrections.proofs.Places.{roles-same}
 
 -- by the amount's word in either, and its role
 pub data Corrected (w v : ℕ) : Role → Item → Item → Type 0 where
   of-asset : (a : Asset) → a .provision + a .deducted ≤ sizeOf w → a .provision + a .deducted ≤ sizeOf v
       → Corrected w v (carrying (a .fiduciary)) (asset (carriedAt (sizeOf w) a)) (asset (carriedAt (sizeOf v) a))
-  of-off-balance : (o : OffBalance) → Corrected w v (commitment (o .class) (o .committed)) (offBalance (ofNotional (sizeOf w) o)) (offBalance (ofNotional (sizeOf v) o))
+  of-off-balance : (o : OffBalance) → Corrected w v (offBalanceNotional (o .class) (o .committed)) (offBalance (ofNotional (sizeOf w) o)) (offBalance (ofNotional (sizeOf v) o))
   of-derivatives : {s t : DerivativeSet} → RevaluedSet (apart (signedOf w) (signedOf v)) s t → Corrected w v (value (s .netting)) (derivatives s) (derivatives t)
   of-financing : {s t : FinancingSet} → RelentSet (apart (signedOf w) (signedOf v)) s t → Corrected w v (lent (s .further)) (financing s) (financing t)
 
--- ---- the same roles
-
--- a member's do not hang on its value
-value-keeps : (netting : Bool) (m : Member) → memberRoles netting (valueless m) ≡ memberRoles netting m
-value-keeps netting (trade t) = refl
-value-keeps netting (written w) = refl
-value-keeps netting (basket b) = refl
-
-pub corrected-roles : {w v : ℕ} {role : Role} {i j : Item} → Corrected w v role i j → itemRoles i ≡ itemRoles j
-corrected-roles (Corrected.of-asset a h k) = refl
-corrected-roles (Corrected.of-off-balance o) = refl
-corrected-roles (Corrected.of-derivatives {s} {t} r) =
-    let netting : s .netting ≡ t .netting = ap (λ (u : DerivativeSet). u .netting) (r .alike) in
-    rw (← netting, ← roles-same (memberRoles (s .netting)) (r .members) (λ m n q. sym (value-keeps (s .netting) m) ∙ ap (memberRoles (s .netting)) (q .alike) ∙ value-keeps (s .netting) n))
-corrected-roles (Corrected.of-financing {s} {t} r) =
-    let further : s .further ≡ t .further = ap (λ (u : FinancingSet). u .further) (r .alike) in
-    rw (← further, ← roles-same (financingTradeRoles (s .further)) (r .trades) (λ t u q. refl))
-
--- ---- within the ceiling
-
+-- within the ceiling
 pub corrected-ceiling : (bands : Bands) {w v : ℕ} {role : Role} {i j : Item} {ceiling : ℕ} → Corrected w v role i j → Ceiling role ceiling
     → gap (exposureOf bands i) (exposureOf bands j) ≤ ceiling * apart (signedOf w) (signedOf v)
 corrected-ceiling bands {w} {v} {ceiling = c} (Corrected.of-asset a h k) l =

@@ -10,7 +10,7 @@ use Rattle.rules.specs.Read.{protectionsOf, itemsOf}
 use Rattle.cuts.proofs.Records.{MemberRead, FinancingTradeRead}
 use Rattle.cuts.proofs.Cutting.{ItemHere, book-cut}
 use Rattle.cuts.proofs.Lengths.{coverLength, memberLength, financingTradeLength, itemLength, placedLength, chain-length, member-length, financing-trade-length, here-length}
-use Rattle.corrections.specs.Roles.{grade, outside, Role, other, coverRoles, memberRoles, financingTradeRoles, itemRoles}
+use Rattle.corrections.specs.Roles.{grade, outside, Role, other, coverRoles, memberRoles, financingTradeRoles, itemRoles, placedRoles}
 use Rattle.corrections.specs.Claims.{OneRoleEach}
 
 -- if so many of each record, then together
@@ -45,6 +45,6 @@ module _ (ws : List ℕ) where
 pub one-role-each : OneRoleEach
 one-role-each ws e =
     let c = book-cut ws e in
-    let l = flat-length (λ (p : Placed). itemRoles (p .item)) placedLength (λ p. item-count (p .item)) (itemsOf ws .records) in
+    let l = flat-length placedRoles placedLength (λ p. item-count (p .item)) (itemsOf ws .records) in
     let m = chain-length placedLength (here-length ws) (c .items) in
-    omega (arith, c .end .last, c .behind, l, m, length-append (replicate (protectionsOf ws .place) (other outside)) (flatMap (λ (p : Placed). itemRoles (p .item)) (itemsOf ws .records)), length-replicate (protectionsOf ws .place) (other outside))
+    omega (arith, c .end .last, c .behind, l, m, length-append (replicate (protectionsOf ws .place) (other outside)) (flatMap placedRoles (itemsOf ws .records)), length-replicate (protectionsOf ws .place) (other outside))

@@ -12,7 +12,7 @@ use Rattle.rules.specs.Book.{Asset, OffBalance, asset, offBalance}
 use Rattle.rules.specs.Rows.{assetRows}
 use Rattle.laws.specs.Exposure.{exposureOf}
 use Rattle.laws.proofs.FactorBounds.{conversion-at-most}
-use Rattle.corrections.specs.Roles.{carrying, commitment}
+use Rattle.corrections.specs.Roles.{carrying, offBalanceNotional}
 use Rattle.corrections.specs.Claims.{Ceiling}
 use Rattle.corrections.proofs.Apart.{gap}
 
@@ -62,8 +62,8 @@ module _ (bands : Bands) (a : Asset) where
 abbrev pub ofNotional : ℕ → OffBalance → OffBalance
 ofNotional n o = record { class = o .class; committed = o .committed; notional = n }
 
-conversion-within : (class committed : ℕ) {ceiling : ℕ} → Ceiling (commitment class committed) ceiling → conversionOf class committed ≤ ceiling
-conversion-within class committed Ceiling.of-commitment = conversion-at-most class committed
+conversion-within : (class committed : ℕ) {ceiling : ℕ} → Ceiling (offBalanceNotional class committed) ceiling → conversionOf class committed ≤ ceiling
+conversion-within class committed Ceiling.of-off-balance = conversion-at-most class committed
 
 module _ (bands : Bands) (o : OffBalance) where
   -- EXACTLY, by the conversion figure
@@ -71,7 +71,7 @@ module _ (bands : Bands) (o : OffBalance) where
   notional-exact n d = omega arith
 
   -- so within its ceiling
-  pub notional-ceiling : {ceiling : ℕ} → Ceiling (commitment (o .class) (o .committed)) ceiling → (n n′ : ℕ)
+  pub notional-ceiling : {ceiling : ℕ} → Ceiling (offBalanceNotional (o .class) (o .committed)) ceiling → (n n′ : ℕ)
       → gap (exposureOf bands (offBalance (ofNotional n o))) (exposureOf bands (offBalance (ofNotional n′ o))) ≤ ceiling * gap n n′
   notional-ceiling l n n′ =
       let e = in-proportion (λ (x : ℕ). exposureOf bands (offBalance (ofNotional x o))) (conversionOf (o .class) (o .committed)) n n′ (notional-exact n) (notional-exact n′) in

@@ -65,13 +65,10 @@ module _ {d : ℕ} {l m : List FinancingTrade} (o : OneOf (Relent d) l m) where
 -- ---- the excess and the value lent
 
 -- a part that stays, and one that moves, or two with further exposure
-module _ {d : ℕ} where
-  once : {ceiling : ℕ} → Ceiling (lent false) ceiling → (b b′ e e′ : ℕ) → b ≡ b′ → gap e e′ ≤ d → gap (1000 * b + 1000 * e + 0) (1000 * b′ + 1000 * e′ + 0) ≤ ceiling * d
-  once Ceiling.of-lent b b′ e e′ same h = omega arith
-
-  twice : {ceiling : ℕ} → Ceiling (lent true) ceiling → (b b′ e e′ l l′ : ℕ) → b ≡ b′ → gap e e′ ≤ d → gap l l′ ≤ d
-      → gap (1000 * b + 1000 * e + 1000 * l) (1000 * b′ + 1000 * e′ + 1000 * l′) ≤ ceiling * d
-  twice Ceiling.of-lent-further b b′ e e′ l l′ same h k = omega arith
+parts-within : {d ceiling : ℕ} (further : Bool) → Ceiling (lent further) ceiling → (b e e′ l l′ : ℕ) → gap e e′ ≤ d → gap l l′ ≤ d
+    → gap (1000 * b + 1000 * e + cond further (1000 * l) 0) (1000 * b + 1000 * e′ + cond further (1000 * l′) 0) ≤ ceiling * d
+parts-within true Ceiling.of-lent-further b e e′ l l′ h k = omega arith
+parts-within false Ceiling.of-lent b e e′ l l′ h k = omega arith
 
 -- what a set lends, and receives; the excess trade by trade; and gross assets less securities and cash netted
 abbrev lentIn : FinancingSet → ℕ
@@ -107,7 +104,7 @@ module _ (d : ℕ) (s t : FinancingSet) (r : RelentSet d s t) where
       go true = omega (arith, lent-apart, received-same)
       go false = by-trade
 
-  -- which do not look at it
+  -- gross assets less securities and cash netted do not look at it
   assets-same : assetsLeft s ≡ assetsLeft t
   assets-same =
       let assets = one-same (λ (x : FinancingTrade). x .asset - x .securities) (r .trades) (λ a b q. ap (λ (x : FinancingTrade). x .asset - x .securities) (q .alike)) in
@@ -116,11 +113,6 @@ module _ (d : ℕ) (s t : FinancingSet) (r : RelentSet d s t) where
   -- A SET: by at most 1,000 for each unit, and 2,000 with further exposure
   pub lent-ceiling : {ceiling : ℕ} → Ceiling (lent (s .further)) ceiling → gap (financingExposure s) (financingExposure t) ≤ ceiling * d
   unfolding excessOf
-  lent-ceiling {ceiling} h =
+  lent-ceiling h =
       let further : s .further ≡ t .further = ap (λ (u : FinancingSet). u .further) (r .alike) in
-      rw (← further) (go (s .further) h)
-    where
-      go : (f : Bool) → Ceiling (lent f) ceiling
-          → gap (1000 * assetsLeft s + 1000 * excessOf s + cond f (1000 * lentIn s) 0) (1000 * assetsLeft t + 1000 * excessOf t + cond f (1000 * lentIn t) 0) ≤ ceiling * d
-      go true h = twice h (assetsLeft s) (assetsLeft t) (excessOf s) (excessOf t) (lentIn s) (lentIn t) assets-same excess-apart lent-apart
-      go false h = once h (assetsLeft s) (assetsLeft t) (excessOf s) (excessOf t) assets-same excess-apart
+      rw (← further, assets-same) (parts-within (s .further) h (assetsLeft t) (excessOf s) (excessOf t) (lentIn s) (lentIn t) excess-apart lent-apart)

@@ -9,6 +9,7 @@ pub mod Assets
 pub mod Members
 pub mod FinancingTrades
 pub mod Items
+pub mod SameRoles
 pub mod Books
 pub mod Ceilings
 pub mod Samples

@@ -9,9 +9,9 @@ use lib.Seq.{getD-append-add}
 use Rattle.rules.specs.Book.{Cover}
 use Rattle.rules.proofs.Lists.{and-left, and-right}
 use Rattle.cuts.proofs.Chains.{Chain}
+use Rattle.cuts.proofs.Lengths.{chain-length}
 use Rattle.cuts.proofs.Steps.{OneOther}
-use Rattle.corrections.specs.Roles.{Other, outside, Role, carrying, commitment, value, lent, other, coverRoles}
-use Rattle.corrections.proofs.Apart.{OneOf}
+use Rattle.corrections.specs.Roles.{Other, outside, Role, carrying, offBalanceNotional, value, lent, other, coverRoles}
 
 -- the role at a place
 abbrev pub roleIn : List Role → ℕ → Role
@@ -20,9 +20,8 @@ roleIn l j = getD l j (other outside)
 -- ---- the roles of records that follow each other
 
 module _ {A : Type 0} {R : ℕ → A → ℕ → Type 0} (roles : A → List Role) (words : (at : ℕ) (a : A) (next : ℕ) → R at a next → next ≡ at + length (roles a)) where
-  chain-behind : {at stop : ℕ} {l : List A} → Chain R at l stop → at ≤ stop
-  chain-behind Chain.done = omega arith
-  chain-behind (Chain.then {at} {next} {a = a} r c) = omega (arith, words at a next r, chain-behind c)
+  behind : {at stop : ℕ} {l : List A} → Chain R at l stop → at ≤ stop
+  behind c = omega (arith, chain-length (λ (a : A). length (roles a)) words c)
 
   -- a word in one of them has its role there
   role-there : {start at next : ℕ} {before : List A} (first : A) (after : List A) → Chain R start before at → R at first next → (k : ℕ) → at ≤ k → k < next
@@ -31,32 +30,23 @@ module _ {A : Type 0} {R : ℕ → A → ℕ → Type 0} (roles : A → List Rol
   role-there {at = at} {next} first after Chain.done r k h b =
       List·getD-append (roles first) (flatMap roles after) (other outside) (k - at) (omega (arith, words at first next r))
   role-there {start} first after (Chain.then {next = second} {a} {l} q c) r k h b =
-      let e : k - start ≡ length (roles a) + (k - second) = omega (arith, words start a second q, chain-behind c) in
+      let e : k - start ≡ length (roles a) + (k - second) = omega (arith, words start a second q, behind c) in
       rw e (getD-append-add (roles a) (flatMap roles (l ++ first ∷ after)) (k - second) (other outside)) ∙ role-there first after c r k h b
 
   -- so has the word that two books differ in, behind words of other roles
   pub role-of-other : {S : ℕ → A → ℕ → Type 0} {J : ℕ → A → A → ℕ → Type 0} {k start : ℕ} {l m : List A} (own : List Role) → length own ≡ start → (c : OneOther R S J k start l m)
       → roleIn (own ++ flatMap roles l) k ≡ roleIn (roles (c .first)) (k - c .at)
   role-of-other {k = k} {start} {l} own n c =
-      let e : k ≡ length own + (k - start) = omega (arith, chain-behind (c .reads-before), c .from) in
+      let e : k ≡ length own + (k - start) = omega (arith, behind (c .reads-before), c .from) in
       ap (roleIn (own ++ flatMap roles l)) e ∙ getD-append-add own (flatMap roles l) (k - start) (other outside)
       ∙ ap (λ (x : List A). roleIn (flatMap roles x) (k - start)) (c .is-first)
       ∙ role-there (c .first) (c .after) (c .reads-before) (c .reads-first) k (c .from) (c .below)
-
--- lists that are equal but in one place have the same roles if what stands there has
-pub roles-same : {A : Type 0} {Rel : A → A → Type 0} (roles : A → List Role) {l m : List A} → OneOf Rel l m → ((a b : A) → Rel a b → roles a ≡ roles b) → flatMap roles l ≡ flatMap roles m
-unfolding flatMap
-roles-same {A} roles o h = rw (o .is-first, o .is-second) (go (o .before))
-  where
-    go : (before : List A) → flatMap roles (before ++ o .first ∷ o .after) ≡ flatMap roles (before ++ o .second ∷ o .after)
-    go [] = rw (h (o .first) (o .second) (o .related))
-    go (a ∷ before) = ap (λ (l : List Role). roles a ++ l) (go before)
 
 -- ---- amounts that claims speak of
 
 abbrev pub spokenOf : Role → Bool
 spokenOf (carrying fiduciary) = true
-spokenOf (commitment class committed) = true
+spokenOf (offBalanceNotional class committed) = true
 spokenOf (value netting) = true
 spokenOf (lent further) = true
 spokenOf (other name) = false

@@ -45,12 +45,13 @@ pub pairs-move : PairsMove
 unfolding gainOf lossOf runFrom cause assetFault derivativeSetFault tradeFault basketFault writtenFault financingSetFault financingTradeFault offBalanceFault leapDays daysOf after dateIn dateOf dayOf later bandsOf headFaulty dateFaulty reportingDate headOf lacks recordThen assetAt assetTurn coverTurn writtenAt writtenTurn tradeAt tradeTurn basketAt basketTurn memberTurn derivativeSetAt derivativeSetTurn financingTradeAt financingTradeTurn financingMemberTurn financingSetAt financingSetTurn offBalanceAt offBalanceTurn itemOf endFault itemTurn protectionsOf itemsOf marketFactor tradeFactor conversionOf weightedOf tradeAddOn sortedDown basketAddOn writtenAddOn keptIn tallyOf replacementOf weightedIn sumBelow cashNetted excessOf assetRows sumsOf rowsOf drawsFrom drawsOf drawsOver unfitFor drawFault settle recordsOutcome admission outcomeOf filing flatMap
 pairs-move = record {
   of-carrying = made (omega arith) refl refl refl refl refl refl refl refl;
-  of-commitment = made (omega arith) refl refl refl refl refl refl refl refl;
+  of-off-balance = made (omega arith) refl refl refl refl refl refl refl refl;
   of-trade = made (omega arith) refl refl refl refl refl refl refl refl;
   of-credit = made (omega arith) refl refl refl refl refl refl refl refl;
   of-basket = made (omega arith) refl refl refl refl refl refl refl refl;
   of-lent = made (omega arith) refl refl refl refl refl refl refl refl;
   of-lent-netted = made (omega arith) refl refl refl refl refl refl refl refl;
+  of-lent-by-agent = made (omega arith) refl refl refl refl refl refl refl refl;
   of-lent-further = made (omega arith) refl refl refl refl refl refl refl refl;
   across-zero = made (omega arith) refl refl refl refl refl refl refl refl;
   of-netted-value = made (omega arith) refl refl refl refl refl refl refl refl;
@@ -59,14 +60,14 @@ pairs-move = record {
 -- where a pair attains a ceiling, no smaller figure holds
 attained : {xs : List ℕ} {k amount : ℕ} {role : Role} {d before after : ℕ} (ceiling : ℕ) → Pair xs k amount role d before after → 0 < d → ceiling * d ≡ gap before after → NoLower role ceiling
 attained {xs} {k} {amount} {role} {d} {before} {after} ceiling p some e figure l holds =
-    let m = holds xs (set xs k amount) k (lentRows 23) (lentRows 22) [] [] (p .alike) (p .role-is) (p .first-accepted) (p .second-accepted) .1 in
+    let m = holds xs (set xs k amount) k (lentRows 23) (lentRows 22) [] [] (p .alike) (p .role-is) (p .first-accepted) (p .second-accepted) in
     let n : gap before after ≤ figure * d = rw (p .first-row, p .second-row, p .units-are, whole-apart before after) at m in
     omega (arith, mul-le-mul-right d l)
 
 pub lowest-ceilings : LowestCeilings
 lowest-ceilings = record {
   of-carrying = attained _ (pairs-move .of-carrying) (omega arith) refl;
-  of-commitment = attained _ (pairs-move .of-commitment) (omega arith) refl;
+  of-off-balance = attained _ (pairs-move .of-off-balance) (omega arith) refl;
   of-value = attained _ (pairs-move .of-trade) (omega arith) refl;
   of-lent = attained _ (pairs-move .of-lent) (omega arith) refl;
   of-lent-further = attained _ (pairs-move .of-lent-further) (omega arith) refl;

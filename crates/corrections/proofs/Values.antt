@@ -56,28 +56,13 @@ pub record RevaluedSet (d : ℕ) (s t : DerivativeSet) : Type 0 where
   pub alike : memberless s ≡ memberless t
   pub members : OneOf (Revalued d) (s .members) (t .members)
 
--- what does not look at the value
-add-on-keeps : (bands : Bands) (m : Member) → addOnIn bands (valueless m) ≡ addOnIn bands m
+-- the add-on, what does not stay in of it, the written notional and the covers do not look at the value
+value-keeps : (bands : Bands) (m : Member)
+    → (addOnIn bands (valueless m) ≡ addOnIn bands m) × (uncoveredIn (valueless m) ≡ uncoveredIn m) × (writtenIn (valueless m) ≡ writtenIn m) × (coversIn (valueless m) ≡ coversIn m)
 unfolding tradeAddOn writtenAddOn basketAddOn
-add-on-keeps bands (trade t) = refl
-add-on-keeps bands (written w) = refl
-add-on-keeps bands (basket b) = refl
-
-uncovered-keeps : (m : Member) → uncoveredIn (valueless m) ≡ uncoveredIn m
-unfolding writtenAddOn
-uncovered-keeps (trade t) = refl
-uncovered-keeps (written w) = refl
-uncovered-keeps (basket b) = refl
-
-written-keeps : (m : Member) → writtenIn (valueless m) ≡ writtenIn m
-written-keeps (trade t) = refl
-written-keeps (written w) = refl
-written-keeps (basket b) = refl
-
-covers-keeps : (m : Member) → coversIn (valueless m) ≡ coversIn m
-covers-keeps (trade t) = refl
-covers-keeps (written w) = refl
-covers-keeps (basket b) = refl
+value-keeps bands (trade t) = (refl, refl, refl, refl)
+value-keeps bands (written w) = (refl, refl, refl, refl)
+value-keeps bands (basket b) = (refl, refl, refl, refl)
 
 -- ---- a set without netting
 
@@ -112,7 +97,7 @@ module _ (bands : Bands) (d : ℕ) (s t : DerivativeSet) (r : RevaluedSet d s t)
   counted-apart : s .netting ≡ false → gap (counted s) (counted t) ≤ 1000 * d
   counted-apart gross =
       let mark : t .netting ≡ false = sym (ap (λ (u : DerivativeSet). u .netting) (r .alike)) ∙ gross in
-      omega (arith, counted-gross bands s gross, counted-gross bands t mark, gains, same (addOnIn bands) (add-on-keeps bands), same uncoveredIn uncovered-keeps)
+      omega (arith, counted-gross bands s gross, counted-gross bands t mark, gains, same (addOnIn bands) (λ m. value-keeps bands m .0), same uncoveredIn (λ m. value-keeps bands m .1))
 
   -- A SET: within that ceiling
   pub value-ceiling : {ceiling : ℕ} → Ceiling (value (s .netting)) ceiling → gap (derivativeExposure bands s) (derivativeExposure bands t) ≤ ceiling * d
@@ -121,4 +106,4 @@ module _ (bands : Bands) (d : ℕ) (s t : DerivativeSet) (r : RevaluedSet d s t)
       let shown = unless (s .exempt) (t .exempt) (ap (λ (u : DerivativeSet). u .exempt) (r .alike)) (counted s) (counted t) (1000 * d) (counted-apart (n .0)) in
       let posted : s .posted ≡ t .posted = ap (λ (u : DerivativeSet). u .posted) (r .alike) in
       let paid = ap (λ (u : DerivativeSet). cond (marginOffsets u) 0 (1000 * u .paid)) (r .alike) in
-      omega (arith, same writtenIn written-keeps, same coversIn covers-keeps, mul-le-mul-right d (n .1))
+      omega (arith, same writtenIn (λ m. value-keeps bands m .2), same coversIn (λ m. value-keeps bands m .3), mul-le-mul-right d (n .1))

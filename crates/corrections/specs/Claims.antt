@@ -11,7 +11,7 @@ use Rattle.rules.specs.Read.{itemsOf}
 use Rattle.rules.specs.Filing.{filing}
 use Rattle.rules.specs.TwoDesks.{exposureIn}
 use Rattle.cuts.specs.Words.{OneAmount}
-use Rattle.corrections.specs.Roles.{Role, carrying, commitment, value, lent, rolesOf, roleAt}
+use Rattle.corrections.specs.Roles.{Role, carrying, offBalanceNotional, value, lent, rolesOf, roleAt}
 
 -- ---- the roles
 
@@ -19,12 +19,21 @@ use Rattle.corrections.specs.Roles.{Role, carrying, commitment, value, l
 abbrev pub OneRoleEach : Type 0
 OneRoleEach = (ws : List ℕ) → itemsOf ws .number ≡ 0 → length ws ≡ suc (length (rolesOf ws))
 
+-- two accepted books that are equal but for an amount, whichever it is, are cut alike: each word has the same role in both
+abbrev pub SameRoles : Type 0
+SameRoles =
+    (xs ys : List ℕ) (k : ℕ) (rows rows′ : List ℤ) (register register′ : List Entry)
+    → OneAmount xs ys k
+    → filing xs rows register .number ≡ 0
+    → filing ys rows′ register′ .number ≡ 0
+    → rolesOf xs ≡ rolesOf ys
+
 -- ---- the ceilings
 
 -- thousandths of row 21 for each unit of a correction, by what the amount is. Of a netted value there is none.
 pub data Ceiling : Role → ℕ → Type 0 where
   of-carrying : {fiduciary : Bool} → Ceiling (carrying fiduciary) 1000
-  of-commitment : {class committed : ℕ} → Ceiling (commitment class committed) 1000
+  of-off-balance : {class committed : ℕ} → Ceiling (offBalanceNotional class committed) 1000
   of-value : Ceiling (value false) 1000
   of-lent : Ceiling (lent false) 1000
   of-lent-further : Ceiling (lent true) 2000
@@ -43,8 +52,8 @@ signedOf w = subℕ (gainOf w) (lossOf w)
 abbrev pub units : (xs ys : List ℕ) (k : ℕ) → ℕ
 units xs ys k = apart (signedOf (word xs k)) (signedOf (word ys k))
 
--- for every two accepted books that are equal but for an amount, which is of this role in the first: it is so in the second too, and row 21 moves, up
--- or down, by at most so many thousandths for each unit; whatever their rows and registers hold and however long they are
+-- for every two accepted books that are equal but for an amount, which is of this role: row 21 moves, up or down, by at most so many thousandths for each
+-- unit; whatever their rows and registers hold and however long they are
 abbrev pub MovesAtMost : Role → ℕ → Type 0
 MovesAtMost role ceiling =
     (xs ys : List ℕ) (k : ℕ) (rows rows′ : List ℤ) (register register′ : List Entry)
@@ -52,7 +61,7 @@ MovesAtMost role ceiling =
     → roleAt xs k ≡ role
     → filing xs rows register .number ≡ 0
     → filing ys rows′ register′ .number ≡ 0
-    → (roleAt ys k ≡ role) × (apart (exposureIn (filing xs rows register)) (exposureIn (filing ys rows′ register′)) ≤ ceiling * units xs ys k)
+    → apart (exposureIn (filing xs rows register)) (exposureIn (filing ys rows′ register′)) ≤ ceiling * units xs ys k
 
 -- THE CLAIM
 abbrev pub CeilingsHold : Type 0
@@ -64,10 +73,10 @@ CeilingsHold = (role : Role) (ceiling : ℕ) → Ceiling role ceiling → MovesA
 abbrev pub NoLower : Role → ℕ → Type 0
 NoLower role ceiling = (figure : ℕ) → figure < ceiling → MovesAtMost role figure → ⊥
 
--- of an asset without the mark, and of a commitment that is converted in full; and of a netted value no figure below 601,000 does
+-- of an asset without the mark, and of an off-balance item that is converted in full; and of a netted value no figure below 601,000 does
 pub record LowestCeilings : Type 0 where
   pub of-carrying : NoLower (carrying false) 1000
-  pub of-commitment : NoLower (commitment 3 0) 1000
+  pub of-off-balance : NoLower (offBalanceNotional 3 0) 1000
   pub of-value : NoLower (value false) 1000
   pub of-lent : NoLower (lent false) 1000
   pub of-lent-further : NoLower (lent true) 2000

@@ -5,52 +5,47 @@ use mathlib.Core.Path.{_≡_}
 use mathlib.Core.Bool.{true, false}
 use mathlib.Core.List.{List, [], _∷_, _++_}
 use lib.IntN.{ℤ, pos}
-use lib.ListN.{length, set, replicate}
-use Rattle.rules.specs.Read.{firstRecord}
+use lib.ListN.{set, replicate}
 use Rattle.rules.specs.Filing.{filing}
 use Rattle.rules.specs.TwoDesks.{exposureIn}
 use Rattle.cuts.specs.Words.{OneAmount}
-use Rattle.cuts.proofs.SampleBooks.{headWord}
-use Rattle.corrections.specs.Roles.{Role, carrying, commitment, value, lent, roleAt}
+use Rattle.theorems.specs.Samples.{headWord, minus, bookOf, setOf, tradeOf, financingOf}
+use Rattle.corrections.specs.Roles.{Role, carrying, offBalanceNotional, value, lent, roleAt}
 use Rattle.corrections.specs.Claims.{units}
 
--- ---- books in words
-
--- a negative amount
-abbrev pub minus : ℕ → ℕ
-minus size = 2 ^ 27 + size
-
--- a book without protections, with these words between its head and its end; Tier 1 is 50
-abbrev pub bookWith : List ℕ → List ℕ
-bookWith items = headWord 1 0 ∷ 50 ∷ 35124 ∷ items ++ (headWord 15 (firstRecord + length items) ∷ [])
+-- ---- items in words
 
 -- a provision of 2 and a deduction of 1
-abbrev pub anAsset : (carried : ℕ) → List ℕ
+abbrev anAsset : (carried : ℕ) → List ℕ
 anAsset carried = headWord 2 0 ∷ carried ∷ 2 ∷ 1 ∷ []
 
 -- class 3, which is converted in full
-abbrev pub aCreditSubstitute : (notional : ℕ) → List ℕ
+abbrev aCreditSubstitute : (notional : ℕ) → List ℕ
 aCreditSubstitute notional = headWord 10 3 ∷ notional ∷ []
 
 -- by the netting mark alone, with no margin and no collateral
-abbrev pub aSet : (netting : ℕ) → List ℕ
-aSet netting = headWord 4 netting ∷ 0 ∷ 0 ∷ 0 ∷ []
+abbrev aSet : (netting : ℕ) → List ℕ
+aSet netting = setOf netting 0
 
 -- a currency trade with one payment, at 365 days
-abbrev pub aTrade : (worth notional : ℕ) → List ℕ
-aTrade worth notional = headWord 5 (1 + 1 * 2 ^ 3) ∷ worth ∷ notional ∷ 365 ∷ 365 ∷ []
+abbrev aTrade : (worth notional : ℕ) → List ℕ
+aTrade worth notional = tradeOf 1 worth notional 365
 
 -- a default swap on entity 1, without close-out
-abbrev pub aCredit : (worth : ℕ) → List ℕ
+abbrev aCredit : (worth : ℕ) → List ℕ
 aCredit worth = headWord 6 1 ∷ worth ∷ 100 ∷ 0 ∷ 50 ∷ 3 ∷ []
 
 -- the first default among two names, whose grades qualify
-abbrev pub aBasket : (worth : ℕ) → List ℕ
+abbrev aBasket : (worth : ℕ) → List ℕ
 aBasket worth = headWord 11 (1 + 2 * 2 ^ 6) ∷ worth ∷ 1000 ∷ 9 ∷ 8 ∷ []
 
 -- a financing set with one trade, by the marks of the set: 1 is netting, 2 an agent, 6 an agent with further exposure
-abbrev pub aLoan : (marks given taken : ℕ) → List ℕ
-aLoan marks given taken = headWord 8 marks ∷ headWord 9 0 ∷ 0 ∷ 0 ∷ 0 ∷ 0 ∷ given ∷ taken ∷ 1 ∷ []
+abbrev aLoan : (marks given taken : ℕ) → List ℕ
+aLoan marks given taken = financingOf marks ++ (headWord 9 0 ∷ 0 ∷ 0 ∷ 0 ∷ 0 ∷ given ∷ taken ∷ 1 ∷ [])
+
+-- a book of these, without protections; Tier 1 is 50
+abbrev bookWith : List ℕ → List ℕ
+bookWith items = bookOf 0 50 items
 
 -- ---- pairs
 
@@ -72,12 +67,13 @@ pub record Pair (xs : List ℕ) (k amount : ℕ) (role : Role) (d before after :
 pub record PairsMove : Type 0 where
   -- 10 units move row 21 by 10,000, or by 20,000 with further exposure, so that no ceiling can be lowered
   pub of-carrying : Pair (bookWith (anAsset 20)) 4 30 (carrying false) 10 17000 27000
-  pub of-commitment : Pair (bookWith (aCreditSubstitute 30)) 4 20 (commitment 3 0) 10 30000 20000
+  pub of-off-balance : Pair (bookWith (aCreditSubstitute 30)) 4 20 (offBalanceNotional 3 0) 10 30000 20000
   pub of-trade : Pair (bookWith (aSet 0 ++ aTrade 0 1000)) 8 10 (value false) 10 10000 20000
   pub of-credit : Pair (bookWith (aSet 0 ++ aCredit 10)) 8 0 (value false) 10 110000 100000
   pub of-basket : Pair (bookWith (aSet 0 ++ aTrade 7 0 ++ aBasket 0)) 13 10 (value false) 10 57000 67000
   pub of-lent : Pair (bookWith (aLoan 0 20 5)) 9 30 (lent false) 10 15000 25000
   pub of-lent-netted : Pair (bookWith (aLoan 1 30 5)) 9 20 (lent false) 10 25000 15000
+  pub of-lent-by-agent : Pair (bookWith (aLoan 2 20 5)) 9 30 (lent false) 10 15000 25000
   pub of-lent-further : Pair (bookWith (aLoan 6 20 5)) 9 30 (lent true) 10 35000 55000
   -- from −5 to 5 it is 10, though the sizes are the same
   pub across-zero : Pair (bookWith (aSet 0 ++ aTrade (minus 5) 1000)) 8 5 (value false) 10 10000 15000

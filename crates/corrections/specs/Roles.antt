@@ -18,7 +18,7 @@ pub data Other : Type 0 where
   marginReceived : Other
   marginPaid : Other
   posted : Other
-  -- a trade's, a written credit's or a basket's
+  -- a trade's, a written credit's or a basket's; a financing trade has days, too
   notional : Other
   days : Other
   resetDays : Other
@@ -41,7 +41,7 @@ pub data Role : Type 0 where
   -- an asset's carrying amount, by the mark of the asset
   carrying : (fiduciary : Bool) → Role
   -- an off-balance notional, by the two classes of the item
-  commitment : (class committed : ℕ) → Role
+  offBalanceNotional : (class committed : ℕ) → Role
   -- the value of a trade, a written credit or a basket, by the netting mark of its set
   value : (netting : Bool) → Role
   -- value lent in a financing trade, by the further exposure of its set, which only an agent's can have
@@ -69,11 +69,15 @@ itemRoles (asset a) = other head ∷ carrying (a .fiduciary) ∷ other provision
 itemRoles (derivatives s) =
     other head ∷ other marginReceived ∷ other marginPaid ∷ other posted ∷ flatMap (memberRoles (s .netting)) (s .members)
 itemRoles (financing s) = other head ∷ flatMap (financingTradeRoles (s .further)) (s .trades)
-itemRoles (offBalance o) = other head ∷ commitment (o .class) (o .committed) ∷ []
+itemRoles (offBalance o) = other head ∷ offBalanceNotional (o .class) (o .committed) ∷ []
+
+-- wherever it stands
+abbrev pub placedRoles : Placed → List Role
+placedRoles p = itemRoles (p .item)
 
 -- one for each word: up to where the protections end, and of the items; behind them stands the end
 abbrev pub rolesOf : List ℕ → List Role
-rolesOf ws = replicate (protectionsOf ws .place) (other outside) ++ flatMap (λ (p : Placed). itemRoles (p .item)) (itemsOf ws .records)
+rolesOf ws = replicate (protectionsOf ws .place) (other outside) ++ flatMap placedRoles (itemsOf ws .records)
 
 -- of the word at a place
 abbrev pub roleAt : List ℕ → ℕ → Role

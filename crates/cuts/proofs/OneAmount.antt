@@ -224,6 +224,14 @@ module _ {xs ys : List ℕ} {k : ℕ} (o : OneAmount xs ys k) where
     second-ends = λ at p next e r. item-not-end xs at p next r (kinds o at ∙ e .of);
   }
 
+  -- ONE AMOUNT OTHER, before the items: they are all the same, if as many protections stand before them
+  pub items-same : itemsOf xs .number ≡ 0 → itemsOf ys .number ≡ 0 → itemsBegin xs ≡ itemsBegin ys → k < itemsBegin xs → itemsOf xs .records ≡ itemsOf ys .records
+  items-same e f b h =
+      let c = book-cut xs e in
+      let d = book-cut ys f in
+      let i : Chain (ItemHere ys) (itemsBegin xs) (itemsOf ys .records) (itemsOf ys .place) = rw b (d .items) in
+      chains-same item-steps h (c .items) (c .end) i (d .end) .0
+
   -- ONE AMOUNT OTHER, in an item: the books have the same head, end at the same place, and all items but that one are the same
   pub items-other : itemsOf xs .number ≡ 0 → itemsOf ys .number ≡ 0 → itemsBegin xs ≤ k
       → (headOf xs ≡ headOf ys) × (itemsOf xs .place ≡ itemsOf ys .place) × OneOther (ItemHere xs) (ItemHere ys) (PlacedOther xs ys k) k (itemsBegin xs) (itemsOf xs .records) (itemsOf ys .records)
