@@ -13,6 +13,7 @@ use crate::samples::SAMPLE_DATE;
 
 const ALL_MARGIN_MARKS: u32 = 0b1_1111;
 const NETTING: u32 = 1;
+const EXEMPT: u32 = 1 << 5;
 const MINUS: u32 = 1 << 27;
 const RESETS: u32 = 1 << 11;
 const QUALIFYING: u32 = 1 << 20;

@@ -72,8 +72,6 @@ fn values_join_net_and_gross() {
     assert_eq!(two_baskets(NETTING, 0, [0, -10]), (0, 150_000));
 }
 
-const EXEMPT: u32 = 1 << 5;
-
 #[test]
 fn no_basket_is_taken_for_an_uncovered_credit() {
     let section = |book: Book| {

@@ -2,7 +2,6 @@
 
 use super::*;
 
-const EXEMPT: u32 = 1 << 5;
 const AGENT: u32 = 1 << 1;
 const FURTHER_EXPOSURE: u32 = 1 << 2;
 

@@ -4,7 +4,6 @@
 use super::*;
 
 const TOTAL_RETURN: u32 = 1 << 21;
-const EXEMPT: u32 = 1 << 5;
 const LARGEST: i32 = (1 << 27) - 1;
 
 /// Marks of a default swap whose add-on is 1,000 times its premiums, as long as
