@@ -2,7 +2,7 @@
 use Prim.Native.Nat.{ℕ, suc, _+_, _-_, min, _≤_, _<_}
 use mathlib.Core.Path.{_≡_, _∙_, ap}
 use mathlib.Core.Bool.{Bool, true, false, cond}
-use mathlib.Core.List.{List, [], _∷_, _++_}
+use mathlib.Core.List.{List, _∷_, _++_}
 use native.Mathlib.Omega.{arith}
 use native.Mathlib.Decide.{decLt}
 use borrow.Author.Tests.{lt-ltb, le-ltb}
@@ -10,6 +10,7 @@ use lib.IntN.{ℤ, pos, negsuc, natAbs, negℤ, subℕ}
 use lib.Signed.{≤ℤ-refl}
 use Rattle.rules.specs.Word.{bitOf, sizeOf, gainOf, lossOf}
 use Rattle.rules.specs.Book.{total}
+use Rattle.rules.proofs.Lists.{total-append}
 use Rattle.rules.proofs.Differences.{Difference, of-pos, of-minus, of-sub, as-difference, plus, in-order}
 use Rattle.cuts.proofs.Steps.{OneOther}
 use Rattle.corrections.specs.Claims.{apart, signedOf}
@@ -81,11 +82,9 @@ one-of c r = record { before = c .before; first = c .first; second = c .second; 
 module _ {A : Type 0} {Rel : A → A → Type 0} (f : A → ℕ) {l m : List A} (o : OneOf Rel l m) where
   -- what the one has more there, its sum has more
   one-more : total f l + f (o .second) ≡ total f m + f (o .first)
-  one-more = rw (o .is-first, o .is-second) (go (o .before))
-    where
-      go : (before : List A) → total f (before ++ o .first ∷ o .after) + f (o .second) ≡ total f (before ++ o .second ∷ o .after) + f (o .first)
-      go [] = omega arith
-      go (x ∷ before) = omega (arith, go before)
+  one-more =
+      rw (o .is-first, o .is-second)
+      (omega (arith, total-append f (o .before) (o .first ∷ o .after), total-append f (o .before) (o .second ∷ o .after)))
 
   -- so their sums are no further apart than what they have there,
   pub one-apart : (d : ℕ) → ((a b : A) → Rel a b → gap (f a) (f b) ≤ d) → gap (total f l) (total f m) ≤ d

@@ -49,7 +49,7 @@ bookWith items = bookOf 0 50 items
 
 -- ---- pairs
 
--- buffers that hold another bank's data, with more rows for the first
+-- rows that hold another bank's data; the first filing gets one more
 abbrev pub lentRows : (count : ℕ) → List ℤ
 lentRows count = replicate count (pos 7)
 

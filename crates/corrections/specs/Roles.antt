@@ -36,7 +36,7 @@ pub data Other : Type 0 where
   -- the head, the protections and the end, which are no items
   outside : Other
 
--- an amount, with the marks and classes that its effect on the exposure hangs on
+-- an amount, with the marks and classes that its ceiling or its exact effect is told by
 pub data Role : Type 0 where
   -- an asset's carrying amount, by the mark of the asset
   carrying : (fiduciary : Bool) → Role
