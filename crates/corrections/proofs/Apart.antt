@@ -90,6 +90,10 @@ module _ {A : Type 0} {Rel : A → A → Type 0} (f : A → ℕ) {l m : List A} 
   pub one-apart : (d : ℕ) → ((a b : A) → Rel a b → gap (f a) (f b) ≤ d) → gap (total f l) (total f m) ≤ d
   one-apart d h = omega (arith, one-more, h (o .first) (o .second) (o .related))
 
+  -- the second is larger by just what it has more there,
+  pub one-rises : (d : ℕ) → ((a b : A) → Rel a b → f b ≡ f a + d) → total f m ≡ total f l + d
+  one-rises d h = omega (arith, one-more, h (o .first) (o .second) (o .related))
+
   -- and the same where that is
   pub one-same : ((a b : A) → Rel a b → f a ≡ f b) → total f l ≡ total f m
   one-same h = omega (arith, one-more, h (o .first) (o .second) (o .related))

@@ -6,20 +6,21 @@ use mathlib.Core.Bool.{true}
 use mathlib.Core.List.{List, _∷_, _++_, flatMap}
 use native.Mathlib.Omega.{arith}
 use native.Mathlib.Decide.{decLt}
-use lib.ListN.{length, replicate, length-replicate, List·getD-append}
+use lib.ListN.{length, drop, replicate, length-replicate, List·getD-append}
 use lib.Seq.{getD-drop}
 use Rattle.rules.specs.Word.{word}
 use Rattle.rules.specs.Book.{Placed}
 use Rattle.rules.specs.Read.{headOf, protectionsOf, itemsOf}
 use Rattle.rules.proofs.Lists.{Every}
 use Rattle.laws.proofs.Each.{every-first, every-append}
-use Rattle.laws.proofs.Valid.{ValidPlaced, valid-items}
+use Rattle.laws.proofs.Valid.{valid-items}
 use Rattle.cuts.specs.Words.{OneAmount}
 use Rattle.cuts.proofs.Cutting.{itemsBegin, book-cut}
 use Rattle.cuts.proofs.OneAmount.{PlacedOther, one-behind, items-other}
 use Rattle.corrections.specs.Roles.{outside, Role, other, placedRoles, roleAt}
 use Rattle.corrections.proofs.Apart.{OneOf, one-of}
 use Rattle.corrections.proofs.Corrected.{Corrected}
+use Rattle.corrections.proofs.Allowed.{Allowed, here-allowed}
 use Rattle.corrections.proofs.Places.{roleIn, role-of-other, spokenOf, none-there, replicate-none}
 use Rattle.corrections.proofs.Counted.{placed-words}
 use Rattle.corrections.proofs.Items.{item-corrected}
@@ -29,7 +30,7 @@ there : {A : Type 0} {P : A → Type 0} (before : List A) (a : A) (after : List 
 there before a after e = every-first a after .0 (every-append before (a ∷ after) .0 e .1) .0
 
 -- an item of the one book and that of the other, wherever they stand, by the words at the place
-abbrev CorrectedPlaced : (xs ys : List ℕ) (k : ℕ) → Placed → Placed → Type 0
+abbrev pub CorrectedPlaced : (xs ys : List ℕ) (k : ℕ) → Placed → Placed → Type 0
 CorrectedPlaced xs ys k p q = Corrected (word xs k) (word ys k) (roleAt xs k) (p .item) (q .item)
 
 pub record CorrectedBook (xs ys : List ℕ) (k : ℕ) : Type 0 where
@@ -45,7 +46,7 @@ front-length ws = length-replicate (protectionsOf ws .place) (other outside)
 
 module _ {xs ys : List ℕ} {k : ℕ} (o : OneAmount xs ys k) where
   -- the item in which it stands
-  placed-corrected : (at : ℕ) (p q : Placed) (next : ℕ) → at ≤ k → PlacedOther xs ys k at p q next → ValidPlaced p → ValidPlaced q
+  placed-corrected : (at : ℕ) (p q : Placed) (next : ℕ) → at ≤ k → PlacedOther xs ys k at p q next → Allowed (drop at xs) (p .item) → Allowed (drop at ys) (q .item)
       → spokenOf (roleIn (placedRoles p) (k - at)) ≡ true → Corrected (word xs k) (word ys k) (roleIn (placedRoles p) (k - at)) (p .item) (q .item)
   placed-corrected at p q next from (PlacedOther.here {i} {j} {n} s) v w h =
       let e : at + (k - at) ≡ k = omega arith in
@@ -70,5 +71,7 @@ module _ {xs ys : List ℕ} {k : ℕ} (o : OneAmount xs ys k) where
       let stands = role-of-other placedRoles (placed-words xs) (frontRoles xs) (front-length xs ∙ x .behind) s in
       let v = there (s .before) (s .first) (s .after) (rw (s .is-first) at (valid-items xs)) in
       let w = there (s .before) (s .second) (s .after) (rw (s .is-second) at (valid-items ys)) in
-      let c = placed-corrected (s .at) (s .first) (s .second) (s .next) (s .from) (s .step) v w (rw stands at h) in
+      let a = here-allowed xs (s .at) (s .first) (s .next) (s .reads-first) v in
+      let b = here-allowed ys (s .at) (s .second) (s .next) (s .reads-second) w in
+      let c = placed-corrected (s .at) (s .first) (s .second) (s .next) (s .from) (s .step) a b (rw stands at h) in
       record { head = t .0; items = one-of s (rw stands c) }

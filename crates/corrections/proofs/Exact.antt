@@ -12,17 +12,33 @@ use Rattle.rules.specs.Book.{Asset, OffBalance, asset, offBalance}
 use Rattle.rules.specs.Rows.{assetRows}
 use Rattle.laws.specs.Exposure.{exposureOf}
 use Rattle.laws.proofs.FactorBounds.{conversion-at-most}
-use Rattle.corrections.specs.Roles.{carrying, offBalanceNotional}
+use Rattle.corrections.specs.Roles.{Role, carrying, offBalanceNotional}
 use Rattle.corrections.specs.Claims.{Ceiling}
+use Rattle.corrections.specs.Effects.{Effect}
 use Rattle.corrections.proofs.Apart.{gap}
 
--- what each unit adds exactly moves in proportion, up or down
-in-proportion : (f : ℕ → ℕ) (rate m n : ℕ) → ((d : ℕ) → f (m + d) ≡ f m + rate * d) → ((d : ℕ) → f (n + d) ≡ f n + rate * d) → gap (f m) (f n) ≡ rate * gap m n
-in-proportion f rate m n up down = go (decLe m n)
-  where
-    go : Dec (m ≤ n) → gap (f m) (f n) ≡ rate * gap m n
-    go (yes h) = let e : m + gap m n ≡ n = omega arith in omega (arith, up (gap m n), ap f e)
-    go (no h) = let e : n + gap m n ≡ m = omega arith in omega (arith, down (gap m n), ap f e)
+-- from a least amount on each unit adds so much to f, exactly
+pub record Exactly (f : ℕ → ℕ) (figure least : ℕ) : Type 0 where
+  pub adds : (m d : ℕ) → least ≤ m → f (m + d) ≡ f m + figure * d
+
+module _ {f : ℕ → ℕ} {figure least : ℕ} (exact : Exactly f figure least) (m n : ℕ) (h : least ≤ m) (k : least ≤ n) where
+  -- so it moves in proportion, up or down,
+  in-proportion : gap (f m) (f n) ≡ figure * gap m n
+  in-proportion = go (decLe m n)
+    where
+      go : Dec (m ≤ n) → gap (f m) (f n) ≡ figure * gap m n
+      go (yes l) = let e : m + gap m n ≡ n = omega arith in omega (arith, exact .adds m (gap m n) h, ap f e)
+      go (no l) = let e : n + gap m n ≡ m = omega arith in omega (arith, exact .adds n (gap m n) k, ap f e)
+
+  -- and within each ceiling that is no less
+  pub exact-ceiling : {ceiling : ℕ} → figure ≤ ceiling → gap (f m) (f n) ≤ ceiling * gap m n
+  exact-ceiling l = rw in-proportion (mul-le-mul-right (gap m n) l)
+
+-- a ceiling that is no less than an exact effect
+pub record EffectWithin (role : Role) (ceiling : ℕ) : Type 0 where
+  pub figure : ℕ
+  pub effect : Effect role figure
+  pub within : figure ≤ ceiling
 
 -- ---- the carrying amount of an asset
 
@@ -30,31 +46,20 @@ in-proportion f rate m n up down = go (decLe m n)
 abbrev pub carriedAt : ℕ → Asset → Asset
 carriedAt c a = record { fiduciary = a .fiduciary; carrying = c; provision = a .provision; deducted = a .deducted }
 
--- thousandths for each unit: none of a fiduciary one
-abbrev pub assetRate : (fiduciary : Bool) → ℕ
-assetRate fiduciary = cond fiduciary 0 1000
+-- EXACTLY, where provision and deduction are within the smaller amount
+pub carrying-exact : (bands : Bands) (a : Asset) {figure : ℕ} → Effect (carrying (a .fiduciary)) figure
+    → Exactly (λ c. exposureOf bands (asset (carriedAt c a))) figure (a .provision + a .deducted)
+unfolding assetRows
+carrying-exact bands a x = record { adds = λ c d h. go (a .fiduciary) x c d h }
+  where
+    go : (f : Bool) {figure : ℕ} → Effect (carrying f) figure → (c d : ℕ) → a .provision + a .deducted ≤ c
+        → 1000 * (cond f (a .deducted) (c + d - a .provision) - a .deducted) ≡ 1000 * (cond f (a .deducted) (c - a .provision) - a .deducted) + figure * d
+    go true Effect.of-fiduciary c d h = omega arith
+    go false Effect.of-carrying c d h = omega arith
 
-rate-within : (fiduciary : Bool) {ceiling : ℕ} → Ceiling (carrying fiduciary) ceiling → assetRate fiduciary ≤ ceiling
-rate-within true Ceiling.of-carrying = omega arith
-rate-within false Ceiling.of-carrying = omega arith
-
-module _ (bands : Bands) (a : Asset) where
-  -- EXACTLY, where provision and deduction are within the smaller amount
-  pub carrying-exact : (c d : ℕ) → a .provision + a .deducted ≤ c
-      → exposureOf bands (asset (carriedAt (c + d) a)) ≡ exposureOf bands (asset (carriedAt c a)) + assetRate (a .fiduciary) * d
-  unfolding assetRows
-  carrying-exact c d h = go (a .fiduciary)
-    where
-      go : (f : Bool) → 1000 * (cond f (a .deducted) (c + d - a .provision) - a .deducted) ≡ 1000 * (cond f (a .deducted) (c - a .provision) - a .deducted) + cond f 0 1000 * d
-      go true = omega arith
-      go false = omega arith
-
-  -- so within its ceiling
-  pub carrying-ceiling : {ceiling : ℕ} → Ceiling (carrying (a .fiduciary)) ceiling → (c c′ : ℕ) → a .provision + a .deducted ≤ c → a .provision + a .deducted ≤ c′
-      → gap (exposureOf bands (asset (carriedAt c a))) (exposureOf bands (asset (carriedAt c′ a))) ≤ ceiling * gap c c′
-  carrying-ceiling l c c′ h k =
-      let e = in-proportion (λ (x : ℕ). exposureOf bands (asset (carriedAt x a))) (assetRate (a .fiduciary)) c c′ (λ d. carrying-exact c d h) (λ d. carrying-exact c′ d k) in
-      rw e (mul-le-mul-right (gap c c′) (rate-within (a .fiduciary) l))
+pub carrying-within : (fiduciary : Bool) {ceiling : ℕ} → Ceiling (carrying fiduciary) ceiling → EffectWithin (carrying fiduciary) ceiling
+carrying-within true Ceiling.of-carrying = record { figure = _; effect = Effect.of-fiduciary; within = omega arith }
+carrying-within false Ceiling.of-carrying = record { figure = _; effect = Effect.of-carrying; within = omega arith }
 
 -- ---- the notional of an off-balance item
 
@@ -62,17 +67,10 @@ module _ (bands : Bands) (a : Asset) where
 abbrev pub ofNotional : ℕ → OffBalance → OffBalance
 ofNotional n o = record { class = o .class; committed = o .committed; notional = n }
 
-conversion-within : (class committed : ℕ) {ceiling : ℕ} → Ceiling (offBalanceNotional class committed) ceiling → conversionOf class committed ≤ ceiling
-conversion-within class committed Ceiling.of-off-balance = conversion-at-most class committed
+-- EXACTLY, by the conversion figure
+pub notional-exact : (bands : Bands) (o : OffBalance) {figure : ℕ} → Effect (offBalanceNotional (o .class) (o .committed)) figure
+    → Exactly (λ n. exposureOf bands (offBalance (ofNotional n o))) figure 0
+notional-exact bands o Effect.of-off-balance = record { adds = λ n d h. omega arith }
 
-module _ (bands : Bands) (o : OffBalance) where
-  -- EXACTLY, by the conversion figure
-  pub notional-exact : (n d : ℕ) → exposureOf bands (offBalance (ofNotional (n + d) o)) ≡ exposureOf bands (offBalance (ofNotional n o)) + conversionOf (o .class) (o .committed) * d
-  notional-exact n d = omega arith
-
-  -- so within its ceiling
-  pub notional-ceiling : {ceiling : ℕ} → Ceiling (offBalanceNotional (o .class) (o .committed)) ceiling → (n n′ : ℕ)
-      → gap (exposureOf bands (offBalance (ofNotional n o))) (exposureOf bands (offBalance (ofNotional n′ o))) ≤ ceiling * gap n n′
-  notional-ceiling l n n′ =
-      let e = in-proportion (λ (x : ℕ). exposureOf bands (offBalance (ofNotional x o))) (conversionOf (o .class) (o .committed)) n n′ (notional-exact n) (notional-exact n′) in
-      rw e (mul-le-mul-right (gap n n′) (conversion-within (o .class) (o .committed) l))
+pub notional-within : (class committed : ℕ) {ceiling : ℕ} → Ceiling (offBalanceNotional class committed) ceiling → EffectWithin (offBalanceNotional class committed) ceiling
+notional-within class committed Ceiling.of-off-balance = record { figure = _; effect = Effect.of-off-balance; within = conversion-at-most class committed }

@@ -1,5 +1,6 @@
 pub mod Apart
 pub mod Exact
+pub mod Allowed
 pub mod Values
 pub mod Lent
 pub mod Places
@@ -11,5 +12,7 @@ pub mod FinancingTrades
 pub mod Items
 pub mod SameRoles
 pub mod Books
+pub mod Filings
 pub mod Ceilings
+pub mod Effects
 pub mod Samples

@@ -24,7 +24,7 @@ use Rattle.rules.specs.Filing.{recordsOutcome, admission, outcomeOf, filing}
 use Rattle.rules.specs.TwoDesks.{exposureIn}
 use Rattle.corrections.specs.Roles.{Role, roleAt}
 use Rattle.corrections.specs.Claims.{units, NoLower, LowestCeilings}
-use Rattle.corrections.specs.Pairs.{lentRows, Pair, PairsMove}
+use Rattle.corrections.specs.Pairs.{lentRows, Pair, PairsMove, PairsRise}
 use Rattle.corrections.proofs.Apart.{gap, whole-apart}
 
 -- a book with another amount at a place is equal to it but for that
@@ -41,9 +41,9 @@ made {xs} {k} {amount} l e f r u a b x y = record {
   second-row = y;
 }
 
-pub pairs-move : PairsMove
+computed : PairsMove × PairsRise
 unfolding gainOf lossOf runFrom cause assetFault derivativeSetFault tradeFault basketFault writtenFault financingSetFault financingTradeFault offBalanceFault leapDays daysOf after dateIn dateOf dayOf later bandsOf headFaulty dateFaulty reportingDate headOf lacks recordThen assetAt assetTurn coverTurn writtenAt writtenTurn tradeAt tradeTurn basketAt basketTurn memberTurn derivativeSetAt derivativeSetTurn financingTradeAt financingTradeTurn financingMemberTurn financingSetAt financingSetTurn offBalanceAt offBalanceTurn itemOf endFault itemTurn protectionsOf itemsOf marketFactor tradeFactor conversionOf weightedOf tradeAddOn sortedDown basketAddOn writtenAddOn keptIn tallyOf replacementOf weightedIn sumBelow cashNetted excessOf assetRows sumsOf rowsOf drawsFrom drawsOf drawsOver unfitFor drawFault settle recordsOutcome admission outcomeOf filing flatMap
-pairs-move = record {
+computed = (record {
   of-carrying = made (omega arith) refl refl refl refl refl refl refl refl;
   of-off-balance = made (omega arith) refl refl refl refl refl refl refl refl;
   of-trade = made (omega arith) refl refl refl refl refl refl refl refl;
@@ -55,7 +55,19 @@ pairs-move = record {
   of-lent-further = made (omega arith) refl refl refl refl refl refl refl refl;
   across-zero = made (omega arith) refl refl refl refl refl refl refl refl;
   of-netted-value = made (omega arith) refl refl refl refl refl refl refl refl;
-}
+}, record {
+  of-carrying = made (omega arith) refl refl refl refl refl refl refl refl;
+  of-off-balance = made (omega arith) refl refl refl refl refl refl refl refl;
+  of-lower-second = made (omega arith) refl refl refl refl refl refl refl refl;
+  of-higher-second = made (omega arith) refl refl refl refl refl refl refl refl;
+  of-fiduciary = made (omega arith) refl refl refl refl refl refl refl refl;
+})
+
+pub pairs-move : PairsMove
+pairs-move = computed .0
+
+pub pairs-rise : PairsRise
+pairs-rise = computed .1
 
 -- where a pair attains a ceiling, no smaller figure holds
 attained : {xs : List ℕ} {k amount : ℕ} {role : Role} {d before after : ℕ} (ceiling : ℕ) → Pair xs k amount role d before after → 0 < d → ceiling * d ≡ gap before after → NoLower role ceiling

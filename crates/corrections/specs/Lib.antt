@@ -1,3 +1,4 @@
 pub mod Roles
 pub mod Claims
+pub mod Effects
 pub mod Pairs

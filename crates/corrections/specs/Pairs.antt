@@ -1,5 +1,5 @@
--- Request A.4: pairs of books in which one amount is corrected, with row 21 of either, in words. Each ceiling is attained; and the request's own pair shows
--- that a netted value has none of that kind. Assumes nothing.
+-- Pairs of books in which one amount is corrected, with row 21 of either, in words. Request A.4: each ceiling is attained; and the request's own pair shows
+-- that a netted value has none of that kind. Request A.13: each exact effect in one book. Assumes nothing.
 use Prim.Native.Nat.{ℕ, _+_, _*_, _^_}
 use mathlib.Core.Path.{_≡_}
 use mathlib.Core.Bool.{true, false}
@@ -18,6 +18,14 @@ use Rattle.corrections.specs.Claims.{units}
 -- a provision of 2 and a deduction of 1
 abbrev anAsset : (carried : ℕ) → List ℕ
 anAsset carried = headWord 2 0 ∷ carried ∷ 2 ∷ 1 ∷ []
+
+-- the same with the fiduciary mark
+abbrev aFiduciaryAsset : (carried : ℕ) → List ℕ
+aFiduciaryAsset carried = headWord 2 1 ∷ carried ∷ 2 ∷ 1 ∷ []
+
+-- by its class, and 0 or one more than the class of the item committed to
+abbrev anOffBalanceItem : (class committed notional : ℕ) → List ℕ
+anOffBalanceItem class committed notional = headWord 10 (class + committed * 2 ^ 4) ∷ notional ∷ []
 
 -- class 3, which is converted in full
 abbrev aCreditSubstitute : (notional : ℕ) → List ℕ
@@ -79,3 +87,18 @@ pub record PairsMove : Type 0 where
   pub across-zero : Pair (bookWith (aSet 0 ++ aTrade (minus 5) 1000)) 8 5 (value false) 10 10000 15000
   -- THE REQUEST'S OWN: in a netted set, beside a trade of value 1 and notional 100,000, one of notional 0 whose value moves from −1 to 0
   pub of-netted-value : Pair (bookWith (aSet 1 ++ aTrade 1 100000 ++ aTrade (minus 1) 0)) 13 0 (value true) 1 400000 1001000
+
+-- ---- exact effects
+
+-- the assets are carried at 20, the items have a notional of 30: a commitment beyond one year, converted at 500; a credit substitute that is converted at
+-- the 100 of a cancellable commitment, its second class; and that commitment, which is converted at its own 100 though its second class is the substitute's
+abbrev pub fiveAmounts : List ℕ
+fiveAmounts = bookWith (anAsset 20 ++ aFiduciaryAsset 20 ++ anOffBalanceItem 1 0 30 ++ anOffBalanceItem 3 (1 + 2) 30 ++ anOffBalanceItem 2 (1 + 3) 30)
+
+-- each of the five raised by 7 units
+pub record PairsRise : Type 0 where
+  pub of-carrying : Pair fiveAmounts 4 27 (carrying false) 7 38000 45000
+  pub of-off-balance : Pair fiveAmounts 12 37 (offBalanceNotional 1 0) 7 38000 41500
+  pub of-lower-second : Pair fiveAmounts 14 37 (offBalanceNotional 3 (1 + 2)) 7 38000 38700
+  pub of-higher-second : Pair fiveAmounts 16 37 (offBalanceNotional 2 (1 + 3)) 7 38000 38700
+  pub of-fiduciary : Pair fiveAmounts 8 27 (carrying true) 7 38000 38000
