@@ -1,5 +1,5 @@
 -- Request A.13: by how much row 21 rises where one amount of an accepted book is raised, exactly. Assumes nothing.
-use Prim.Native.Nat.{ℕ, _*_}
+use Prim.Native.Nat.{ℕ, _+_, _*_}
 use mathlib.Core.Path.{_≡_}
 use mathlib.Core.Bool.{true, false}
 use mathlib.Core.List.{List}
@@ -37,3 +37,17 @@ RisesBy role figure =
 -- THE CLAIM
 abbrev pub EffectsExact : Type 0
 EffectsExact = (role : Role) (figure : ℕ) → Effect role figure → RisesBy role figure
+
+-- ---- no other figure holds
+
+abbrev pub OnlyFigure : Role → ℕ → Type 0
+OnlyFigure role figure = (other : ℕ) → RisesBy role other → other ≡ figure
+
+-- of an asset without the mark; of a commitment beyond one year; of a credit substitute whose second class is the cancellable commitment, and the other way
+-- round; and of an asset with the mark
+pub record OnlyFigures : Type 0 where
+  pub of-carrying : OnlyFigure (carrying false) 1000
+  pub of-off-balance : OnlyFigure (offBalanceNotional 1 0) 500
+  pub of-lower-second : OnlyFigure (offBalanceNotional 3 (1 + 2)) 100
+  pub of-higher-second : OnlyFigure (offBalanceNotional 2 (1 + 3)) 100
+  pub of-fiduciary : OnlyFigure (carrying true) 0
