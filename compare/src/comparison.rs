@@ -137,12 +137,12 @@ impl Sides {
     /// The same book with one amount corrected.
     fn correction(&mut self, first: &First, correction: &Correction) -> Result<(), String> {
         let second = self.file_second(first, &correction.book)?;
-        let (amount, distance) = (correction.amount, correction.distance());
+        let (amount, raised) = (correction.amount, correction.raised());
         let (left, side) = (&first.left, &self.model_side);
         let moved = side.rows[20] - left.rows[20];
         self.pairs.correction(amount);
         self.reached.correction(correction, moved);
-        laws::correction(&first.answer, left, &second, side, amount, distance).map_err(|what| {
+        laws::correction(&first.answer, left, &second, side, amount, raised).map_err(|what| {
             let (record, before, after) = (correction.record, correction.before, correction.after);
             let change = format!("{amount:?} of record {record} from {before} to {after}");
             let words = hexadecimal(&correction.book);

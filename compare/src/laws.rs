@@ -3,7 +3,7 @@
 
 mod corrections;
 
-pub use corrections::{correction, CEILING};
+pub use corrections::{correction, CEILING, CONVERSION};
 
 use crate::filing::{same_entries, Buffers, Lengths};
 use crate::model::{Answer, Entry, FIRST_RECORD, ROWS};

@@ -1,11 +1,15 @@
 //! The same book with one amount corrected, of those whose effect on the exposure
-//! has a ceiling. Now and then it is the value of a netted trade, which has none.
+//! is known or has a ceiling. Now and then it is the value of a netted trade, of
+//! which there is neither.
 
 use super::{amounts, Random, AMOUNT_LIMIT};
 use crate::model::kinds;
 
 /// The mark of an asset.
 const FIDUCIARY: u32 = 1;
+/// The two classes of an off-balance item, one behind the other.
+const CLASS_BITS: u32 = 4;
+const CLASS: u32 = (1 << CLASS_BITS) - 1;
 /// Marks of a derivative set.
 const NETTING: u32 = 1;
 const EXEMPT: u32 = 1 << 5;
@@ -25,13 +29,15 @@ const LARGEST: i32 = AMOUNT_LIMIT as i32 - 1;
 /// One in so many books has a netted value corrected, if there is any.
 const NETTED_VALUES: u32 = 4;
 
-/// What an amount is, with the marks that tell how it enters which rows.
+/// What an amount is, with the marks and classes that tell how it enters which
+/// rows.
 #[derive(Clone, Copy, PartialEq, Debug)]
 pub enum Amount {
     /// The carrying amount of an asset.
     Carrying { fiduciary: bool },
-    /// The notional of an off-balance item.
-    OffBalance,
+    /// The notional of an off-balance item, by its class, and 0 or one more than
+    /// the class that it is committed to.
+    OffBalance { class: u32, committed: u32 },
     /// The value of a trade, a written credit or a basket.
     Value { netted: bool, exempt: bool },
     /// The value lent of a financing trade.
@@ -47,7 +53,10 @@ impl Amount {
             kinds::ASSET => Amount::Carrying {
                 fiduciary: word & FIDUCIARY != 0,
             },
-            kinds::OFF_BALANCE => Amount::OffBalance,
+            kinds::OFF_BALANCE => Amount::OffBalance {
+                class: word & CLASS,
+                committed: word >> CLASS_BITS & CLASS,
+            },
             kinds::TRADE | kinds::WRITTEN_CREDIT | kinds::BASKET => Amount::Value {
                 netted: marked(NETTING),
                 exempt: marked(EXEMPT),
@@ -64,6 +73,13 @@ impl Amount {
         matches!(self, Amount::Value { netted: true, .. })
     }
 
+    /// Of one sort are all off-balance notionals: of some of the many classes there
+    /// is often one, and other amounts would come seldom.
+    fn is_of_sort(self, other: Self) -> bool {
+        let off_balance = |amount| matches!(amount, Amount::OffBalance { .. });
+        self == other || off_balance(self) && off_balance(other)
+    }
+
     /// Where in its record it stands.
     fn offset(self) -> usize {
         match self {
@@ -77,7 +93,7 @@ impl Amount {
         match self {
             Amount::Carrying { .. } => signed(record[PROVISION]) + signed(record[DEDUCTED]),
             Amount::Value { .. } => -LARGEST,
-            Amount::OffBalance | Amount::Lent { .. } => 0,
+            Amount::OffBalance { .. } | Amount::Lent { .. } => 0,
         }
     }
 }
@@ -96,9 +112,10 @@ pub struct Correction {
 }
 
 impl Correction {
-    /// Units from one amount to the other, with their signs: 10 from -5 to 5.
-    pub fn distance(&self) -> i64 {
-        (self.after - self.before).abs()
+    /// Units by which the amount is larger than in the first book, both with their
+    /// signs: 10 from -5 to 5, and -10 back.
+    pub fn raised(&self) -> i64 {
+        self.after - self.before
     }
 
     fn new(book: &[u32], place: &Place, random: &mut Random) -> Self {
@@ -169,7 +186,7 @@ fn places(book: &[u32]) -> Vec<Place> {
 fn choose(places: &[Place], random: &mut Random) -> Option<Place> {
     let mut sorts: Vec<Amount> = Vec::new();
     for place in places {
-        if !sorts.contains(&place.amount) {
+        if !sorts.iter().any(|sort| sort.is_of_sort(place.amount)) {
             sorts.push(place.amount);
         }
     }
@@ -179,7 +196,7 @@ fn choose(places: &[Place], random: &mut Random) -> Option<Place> {
     let sort = random.pick(&sorts);
     let of_sort: Vec<Place> = places
         .iter()
-        .filter(|place| place.amount == sort)
+        .filter(|place| place.amount.is_of_sort(sort))
         .copied()
         .collect();
     Some(random.pick(&of_sort))

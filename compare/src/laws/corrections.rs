@@ -1,6 +1,6 @@
 //! What holds of a book and the same with one amount corrected: row 21 moves by
-//! no more than the ceiling, where there is one, and only rows that the amount
-//! enters change.
+//! just the effect, where that is known, by no more than the ceiling, where there
+//! is one, and only rows that the amount enters change.
 
 #[cfg(test)]
 mod tests;
@@ -10,21 +10,44 @@ use crate::filing::Buffers;
 use crate::generate::Amount;
 use crate::model::Answer;
 
-/// The most by which row 21 moves for a unit of the correction: the unit itself
-/// in thousandths, and twice that where the value lent counts once more as
-/// further exposure.
-pub const CEILING: i64 = 1_000;
-const FURTHER_CEILING: i64 = 2_000;
+/// A unit, in the thousandths that the rows are in.
+const UNIT: i64 = 1_000;
+
+/// The most by which row 21 moves for a unit of the correction: the unit itself,
+/// and twice that where the value lent counts once more as further exposure.
+pub const CEILING: i64 = UNIT;
+const FURTHER_CEILING: i64 = 2 * UNIT;
+
+/// Conversion figures by class.
+pub const CONVERSION: [i64; 11] = [200, 500, 100, 1000, 1000, 500, 500, 200, 1000, 500, 100];
+
+/// The figure of an item: the lower of two where it is committed to another.
+fn conversion(class: u32, committed: u32) -> i64 {
+    let figure = |class: u32| CONVERSION[class as usize];
+    let second = committed.checked_sub(1).map(figure);
+    second.map_or(figure(class), |second| second.min(figure(class)))
+}
 
 impl Amount {
     /// A netted value has none, as it can change the weight of all add-ons of
     /// its set.
     pub fn ceiling(self) -> Option<i64> {
         match self {
-            Amount::Carrying { .. } | Amount::OffBalance => Some(CEILING),
+            Amount::Carrying { .. } | Amount::OffBalance { .. } => Some(CEILING),
             Amount::Value { netted, .. } => (!netted).then_some(CEILING),
             Amount::Lent { further: false, .. } => Some(CEILING),
             Amount::Lent { further: true, .. } => Some(FURTHER_CEILING),
+        }
+    }
+
+    /// What each unit by which it is raised adds to row 21, where that is the same
+    /// in every book.
+    fn effect(self) -> Option<i64> {
+        match self {
+            Amount::Carrying { fiduciary: false } => Some(UNIT),
+            Amount::Carrying { fiduciary: true } => Some(0),
+            Amount::OffBalance { class, committed } => Some(conversion(class, committed)),
+            Amount::Value { .. } | Amount::Lent { .. } => None,
         }
     }
 
@@ -34,7 +57,7 @@ impl Amount {
         match self {
             Amount::Carrying { fiduciary: false } => &[1, 3, 21, 22],
             Amount::Carrying { fiduciary: true } => &[],
-            Amount::OffBalance => &[17, 18, 19, 21, 22],
+            Amount::OffBalance { .. } => &[17, 18, 19, 21, 22],
             Amount::Value { netted, exempt } => match (netted, exempt) {
                 (false, false) => &[4, 11, 21, 22],
                 (false, true) => &[4, 8],
@@ -47,15 +70,15 @@ impl Amount {
     }
 }
 
-/// A book and the same with this amount corrected by so many units, both
-/// accepted.
+/// A book and the same with this amount raised by so many units, or lowered where
+/// they are negative, both accepted.
 pub fn correction(
     first: &Answer,
     first_side: &Buffers,
     second: &Answer,
     second_side: &Buffers,
     amount: Amount,
-    distance: i64,
+    raised: i64,
 ) -> Result<(), String> {
     same_answer(first, second)?;
     same_register(first_side, second_side)?;
@@ -63,8 +86,12 @@ pub fn correction(
     others_stay(before, after, amount.rows())?;
     sums(after)?;
     let moved = after[20] - before[20];
+    if let Some(effect) = amount.effect() {
+        ensure(moved == effect * raised, "row 21 moves by another figure")?;
+    }
     if let Some(ceiling) = amount.ceiling() {
-        ensure(moved.abs() <= ceiling * distance, "row 21 moves too far")?;
+        let most = ceiling * raised.abs();
+        ensure(moved.abs() <= most, "row 21 moves too far")?;
     }
     if moved <= 0 {
         no_worse(first, before, second, after)?;

@@ -2,7 +2,7 @@
 
 use super::{Feature, Reached, Record, LARGEST};
 use crate::generate::{Amount, Correction};
-use crate::laws::CEILING;
+use crate::laws::{CEILING, CONVERSION};
 use crate::model::kinds;
 
 /// How far something moves the way the amount does, against the most that is
@@ -28,7 +28,7 @@ const LENT: &str = "value lent: rises, row 21 moves";
 const LENT_FURTHER: &str = "value lent with further exposure: rises, row 21 moves";
 
 const FIDUCIARY: &str = "carrying amount: fiduciary, rises";
-const CONVERTED: &str = "off-balance notional: class, second class";
+const CONVERTED: &str = "off-balance notional: class, second class, rises";
 const SIGN: &str = "change of a value's sign: kind, exempt, rises";
 const NETTED_SIGN: &str = "change of a netted value's sign: kind, exempt, rises";
 const NETTED: &str = "netted value: rises, row 21 moves";
@@ -47,9 +47,6 @@ const PATTERNS: [&str; 8] = [
     "value lent beyond its own received that leaves E* of a netted set",
 ];
 
-/// Conversion figures by class.
-const CONVERSION: [u32; 11] = [200, 500, 100, 1000, 1000, 500, 500, 200, 1000, 500, 100];
-
 /// The second class of an off-balance item, against its own.
 const NONE: u32 = 0;
 const NOT_LOWER: u32 = 1;
@@ -64,12 +61,12 @@ const RECEIVED: usize = 5;
 
 pub fn list() -> Vec<Feature> {
     let mut list: Vec<Feature> = PATTERNS.iter().map(|&name| (name, [0; 3])).collect();
-    for (class, figure) in (0..).zip(CONVERSION) {
-        list.extend([NONE, NOT_LOWER].map(|second| (CONVERTED, [class, second, 0])));
-        let lower = CONVERSION.iter().any(|&other| other < figure);
-        list.extend(lower.then_some((CONVERTED, [class, LOWER, 0])));
-    }
     for rises in 0..2 {
+        for (class, figure) in (0..).zip(CONVERSION) {
+            list.extend([NONE, NOT_LOWER].map(|second| (CONVERTED, [class, second, rises])));
+            let lower = CONVERSION.iter().any(|&other| other < figure);
+            list.extend(lower.then_some((CONVERTED, [class, LOWER, rises])));
+        }
         for (name, moves) in BOUNDED {
             list.extend(moves.iter().map(|&moves| (name, [rises, moves, 0])));
         }
@@ -92,7 +89,7 @@ pub fn list() -> Vec<Feature> {
 fn bounded(amount: Amount) -> &'static str {
     match amount {
         Amount::Carrying { .. } => CARRYING,
-        Amount::OffBalance => OFF_BALANCE,
+        Amount::OffBalance { .. } => OFF_BALANCE,
         Amount::Value { .. } => VALUE,
         Amount::Lent { further: false, .. } => LENT,
         Amount::Lent { further: true, .. } => LENT_FURTHER,
@@ -145,8 +142,8 @@ impl Reached {
             set: Record::at(&correction.book, correction.set),
             before,
             after,
-            distance: correction.distance(),
-            along: moved * (after - before).signum(),
+            distance: correction.raised().abs(),
+            along: moved * correction.raised().signum(),
         };
         let amount = correction.amount;
         if let Some(ceiling) = amount.ceiling() {
@@ -155,7 +152,9 @@ impl Reached {
         }
         match amount {
             Amount::Carrying { fiduciary } => self.carrying(&corrected, fiduciary),
-            Amount::OffBalance => self.off_balance(&corrected),
+            Amount::OffBalance { class, committed } => {
+                self.off_balance(&corrected, class, committed)
+            }
             Amount::Value {
                 netted: false,
                 exempt,
@@ -175,15 +174,14 @@ impl Reached {
         self.pattern(asset.after == provision_and_deduction.into(), name);
     }
 
-    fn off_balance(&mut self, item: &Corrected) {
-        let (class, second) = (item.record.field(0, 4), item.record.field(4, 4));
+    fn off_balance(&mut self, item: &Corrected, class: u32, committed: u32) {
         let figure = |class: u32| CONVERSION[class as usize];
-        let second = match second.checked_sub(1) {
+        let second = match committed.checked_sub(1) {
             None => NONE,
             Some(other) if figure(other) < figure(class) => LOWER,
             Some(_) => NOT_LOWER,
         };
-        self.came(CONVERTED, [class, second, 0]);
+        self.came(CONVERTED, [class, second, item.rises()]);
     }
 
     fn value(&mut self, value: &Corrected, exempt: bool) {

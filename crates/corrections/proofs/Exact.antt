@@ -7,7 +7,6 @@ use native.Mathlib.Omega.{arith}
 use native.Mathlib.Decide.{decLe}
 use native.Mathlib.Nat.{mul-le-mul-right}
 use Rattle.rules.specs.declared.Bands.{Bands}
-use Rattle.rules.specs.Factors.{conversionOf}
 use Rattle.rules.specs.Book.{Asset, OffBalance, asset, offBalance}
 use Rattle.rules.specs.Rows.{assetRows}
 use Rattle.laws.specs.Exposure.{exposureOf}

@@ -44,25 +44,28 @@ made {xs} {k} {amount} l e f r u a b x y = record {
 
 computed : PairsMove × PairsRise
 unfolding gainOf lossOf runFrom cause assetFault derivativeSetFault tradeFault basketFault writtenFault financingSetFault financingTradeFault offBalanceFault leapDays daysOf after dateIn dateOf dayOf later bandsOf headFaulty dateFaulty reportingDate headOf lacks recordThen assetAt assetTurn coverTurn writtenAt writtenTurn tradeAt tradeTurn basketAt basketTurn memberTurn derivativeSetAt derivativeSetTurn financingTradeAt financingTradeTurn financingMemberTurn financingSetAt financingSetTurn offBalanceAt offBalanceTurn itemOf endFault itemTurn protectionsOf itemsOf marketFactor tradeFactor conversionOf weightedOf tradeAddOn sortedDown basketAddOn writtenAddOn keptIn tallyOf replacementOf weightedIn sumBelow cashNetted excessOf assetRows sumsOf rowsOf drawsFrom drawsOf drawsOver unfitFor drawFault settle recordsOutcome admission outcomeOf filing flatMap
-computed = (record {
-  of-carrying = made (omega arith) refl refl refl refl refl refl refl refl;
-  of-off-balance = made (omega arith) refl refl refl refl refl refl refl refl;
-  of-trade = made (omega arith) refl refl refl refl refl refl refl refl;
-  of-credit = made (omega arith) refl refl refl refl refl refl refl refl;
-  of-basket = made (omega arith) refl refl refl refl refl refl refl refl;
-  of-lent = made (omega arith) refl refl refl refl refl refl refl refl;
-  of-lent-netted = made (omega arith) refl refl refl refl refl refl refl refl;
-  of-lent-by-agent = made (omega arith) refl refl refl refl refl refl refl refl;
-  of-lent-further = made (omega arith) refl refl refl refl refl refl refl refl;
-  across-zero = made (omega arith) refl refl refl refl refl refl refl refl;
-  of-netted-value = made (omega arith) refl refl refl refl refl refl refl refl;
-}, record {
-  of-carrying = made (omega arith) refl refl refl refl refl refl refl refl;
-  of-off-balance = made (omega arith) refl refl refl refl refl refl refl refl;
-  of-lower-second = made (omega arith) refl refl refl refl refl refl refl refl;
-  of-higher-second = made (omega arith) refl refl refl refl refl refl refl refl;
-  of-fiduciary = made (omega arith) refl refl refl refl refl refl refl refl;
-})
+computed = (
+  record {
+    of-carrying = made (omega arith) refl refl refl refl refl refl refl refl;
+    of-off-balance = made (omega arith) refl refl refl refl refl refl refl refl;
+    of-trade = made (omega arith) refl refl refl refl refl refl refl refl;
+    of-credit = made (omega arith) refl refl refl refl refl refl refl refl;
+    of-basket = made (omega arith) refl refl refl refl refl refl refl refl;
+    of-lent = made (omega arith) refl refl refl refl refl refl refl refl;
+    of-lent-netted = made (omega arith) refl refl refl refl refl refl refl refl;
+    of-lent-by-agent = made (omega arith) refl refl refl refl refl refl refl refl;
+    of-lent-further = made (omega arith) refl refl refl refl refl refl refl refl;
+    across-zero = made (omega arith) refl refl refl refl refl refl refl refl;
+    of-netted-value = made (omega arith) refl refl refl refl refl refl refl refl;
+  },
+  record {
+    of-carrying = made (omega arith) refl refl refl refl refl refl refl refl;
+    of-off-balance = made (omega arith) refl refl refl refl refl refl refl refl;
+    of-lower-second = made (omega arith) refl refl refl refl refl refl refl refl;
+    of-higher-second = made (omega arith) refl refl refl refl refl refl refl refl;
+    of-fiduciary = made (omega arith) refl refl refl refl refl refl refl refl;
+  },
+)
 
 pub pairs-move : PairsMove
 pairs-move = computed .0

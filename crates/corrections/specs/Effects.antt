@@ -13,7 +13,7 @@ use Rattle.cuts.specs.Words.{OneAmount}
 use Rattle.corrections.specs.Roles.{Role, carrying, offBalanceNotional, roleAt}
 use Rattle.corrections.specs.Claims.{signedOf}
 
--- thousandths of row 21 for each unit, by what the amount is. Of values and of value lent there is no such figure.
+-- thousandths of row 21 for each unit, by what the amount is, in the order of the request. It names no other amount.
 pub data Effect : Role → ℕ → Type 0 where
   -- "without the fiduciary mark ... exactly 1,000 times d"
   of-carrying : Effect (carrying false) 1000

@@ -49,7 +49,7 @@ fn corrections_change_one_amount() {
             assert_eq!(words.map(|word| word >> 28), [0, 0]);
             let [before, after] = words.map(amount);
             assert_eq!((correction.before, correction.after), (before, after));
-            assert_eq!(correction.distance(), (after - before).abs());
+            assert_eq!(correction.raised(), after - before);
             assert_eq!(number(&correction.book), 0);
             pairs[usize::from(correction.amount.ceiling().is_some())] += 1;
         }
@@ -90,6 +90,8 @@ fn just_these_amounts_are_corrected() {
     let value = |netted, exempt| Amount::Value { netted, exempt };
     let lent = |agent, further| Amount::Lent { agent, further };
     let carrying = |fiduciary| Amount::Carrying { fiduciary };
+    let (class, committed) = (1, 1);
+    let committed_to_short = Amount::OffBalance { class, committed };
     // By the record, counted from the head on, and the place in it.
     let expected = BTreeMap::from([
         ((2, 1), carrying(false)),
@@ -103,7 +105,7 @@ fn just_these_amounts_are_corrected() {
         ((14, 1), value(true, false)),
         ((16, 1), value(true, true)),
         ((18, 5), lent(false, false)),
-        ((19, 1), Amount::OffBalance),
+        ((19, 1), committed_to_short),
         ((21, 5), lent(false, false)),
         ((23, 5), lent(true, false)),
         ((25, 5), lent(true, true)),
@@ -159,16 +161,16 @@ fn amounts_stay_good_and_reach_their_ends() {
 }
 
 #[test]
-fn distance_is_of_signed_amounts() {
-    let opposite = |records: &str, after: i64| {
+fn signed_amounts_are_raised() {
+    let raised = |records: &str, after: i64| {
         let all = corrected(&lines(records));
         let found = all.iter().find(|correction| correction.after == after);
-        found.map(Correction::distance)
+        found.map(Correction::raised)
     };
-    assert_eq!(opposite("set\ntrade value=-5", 5), Some(10));
-    assert_eq!(opposite("set\ntrade value=5", -5), Some(10));
-    assert_eq!(opposite("set\ntrade value=-5", 0), Some(5));
-    assert_eq!(opposite("set\ntrade value=-5", -4), Some(1));
+    assert_eq!(raised("set\ntrade value=-5", 5), Some(10));
+    assert_eq!(raised("set\ntrade value=5", -5), Some(-10));
+    assert_eq!(raised("set\ntrade value=-5", 0), Some(5));
+    assert_eq!(raised("set\ntrade value=-5", -4), Some(1));
 }
 
 #[test]

@@ -11,16 +11,21 @@ const FIRST: Answer = Answer {
     verdict: 1,
 };
 
-const DISTANCE: i64 = 3;
+const RAISED: i64 = 3;
 
 const CARRYING: Amount = Amount::Carrying { fiduciary: false };
 const FIDUCIARY: Amount = Amount::Carrying { fiduciary: true };
+const VALUE: Amount = value(false, false);
 const PRINCIPAL: Amount = lent(false, false);
 const AGENT: Amount = lent(true, false);
 const FURTHER: Amount = lent(true, true);
 
 const fn value(netted: bool, exempt: bool) -> Amount {
     Amount::Value { netted, exempt }
+}
+
+const fn off_balance(class: u32, committed: u32) -> Amount {
+    Amount::OffBalance { class, committed }
 }
 
 const fn lent(agent: bool, further: bool) -> Amount {
@@ -45,20 +50,48 @@ fn with(row: usize, more: i64) -> Buffers {
 }
 
 fn held(amount: Amount, after: &Buffers) -> Result<(), String> {
-    correction(&FIRST, &with(1, 0), &FIRST, after, amount, DISTANCE)
+    held_by(amount, RAISED, after)
+}
+
+fn held_by(amount: Amount, raised: i64, after: &Buffers) -> Result<(), String> {
+    correction(&FIRST, &with(1, 0), &FIRST, after, amount, raised)
+}
+
+#[test]
+fn exact_effects_and_no_others() {
+    for (amount, row, effect) in [
+        (CARRYING, 1, 1_000),
+        (off_balance(1, 0), 17, 500),
+        (off_balance(3, 0), 17, 1_000),
+        // A credit substitute, and the cancellable commitment, each with the other
+        // as its second class; and two of one figure.
+        (off_balance(3, 2 + 1), 17, 100),
+        (off_balance(2, 3 + 1), 17, 100),
+        (off_balance(7, 1), 17, 200),
+    ] {
+        let exact = effect * RAISED;
+        assert_eq!(held(amount, &with(row, exact)), Ok(()), "{amount:?}");
+        let lowered = held_by(amount, -RAISED, &with(row, -exact));
+        assert_eq!(lowered, Ok(()), "{amount:?}");
+        for moved in [exact + 1, exact - 1, 0, -exact] {
+            let failed = held(amount, &with(row, moved));
+            let expected = "row 21 moves by another figure".to_string();
+            assert_eq!(failed, Err(expected), "{amount:?}");
+        }
+    }
+    assert_eq!(held(FIDUCIARY, &with(1, 0)), Ok(()));
+    assert_eq!(held_by(FIDUCIARY, -RAISED, &with(1, 0)), Ok(()));
 }
 
 #[test]
 fn ceilings_are_attained_and_not_passed() {
     for (amount, row, ceiling) in [
-        (CARRYING, 1, 1_000),
-        (Amount::OffBalance, 17, 1_000),
-        (value(false, false), 4, 1_000),
+        (VALUE, 4, 1_000),
         (PRINCIPAL, 14, 1_000),
         (AGENT, 15, 1_000),
         (FURTHER, 15, 2_000),
     ] {
-        let most = ceiling * DISTANCE;
+        let most = ceiling * RAISED;
         for moved in [most, -most, 0, 1] {
             assert_eq!(held(amount, &with(row, moved)), Ok(()), "{amount:?}");
         }
@@ -81,9 +114,9 @@ fn rows_without_the_amount_stay() {
     for (amount, row, changed) in [
         (CARRYING, 2, 2),
         (FIDUCIARY, 1, 1),
-        (Amount::OffBalance, 1, 1),
-        (value(false, false), 5, 5),
-        (value(false, false), 8, 8),
+        (off_balance(0, 0), 1, 1),
+        (VALUE, 5, 5),
+        (VALUE, 8, 8),
         (value(true, false), 8, 8),
         // Rows 4 and 8 of an exempt set move against each other.
         (value(false, true), 4, 11),
@@ -106,7 +139,7 @@ fn rows_without_the_amount_stay() {
 #[test]
 fn answer_register_and_sums_are_held() {
     let failed = |second: &Answer, after: &Buffers| {
-        correction(&FIRST, &with(1, 0), second, after, CARRYING, DISTANCE).unwrap_err()
+        correction(&FIRST, &with(1, 0), second, after, VALUE, RAISED).unwrap_err()
     };
     let refused = Answer { number: 9, ..FIRST };
     assert_eq!(failed(&refused, &with(1, 0)), "another answer");
@@ -118,5 +151,5 @@ fn answer_register_and_sums_are_held() {
         verdict: 0,
         ..FIRST
     };
-    assert_eq!(failed(&passing, &with(1, 1)), "verdict 0 lost");
+    assert_eq!(failed(&passing, &with(4, 1)), "verdict 0 lost");
 }

@@ -1,4 +1,5 @@
-//! How far one amount moves row 21: request A.4 and its own pair of books.
+//! How far one amount moves row 21: request A.4 and its own pair of books, and the
+//! exact effects of request A.13.
 
 use super::*;
 
@@ -58,6 +59,28 @@ fn carrying_amount_and_off_balance_notional() {
     assert_eq!(moved(item(1), 8, 5), -1_500);
     // A credit substitute committed to as cancellable: the lower counts.
     assert_eq!(moved(item(3 | 3 << 4), 5, 8), 300);
+}
+
+/// By hand: 20 less 3, and no more of a fiduciary one; half of 30, and a tenth of
+/// it twice, which is the lower of a cancellable commitment and a credit substitute.
+#[test]
+fn each_amount_by_its_own_figure() {
+    let row_21 = |raised: usize, by: i32| {
+        let mut amounts = [20, 20, 30, 30, 30];
+        amounts[raised] += by;
+        let [asset, fiduciary, long, substitute, cancellable] = amounts;
+        let book = Book::new(0, 0).add(2, 0, &[asset, 2, 1]);
+        let book = book.add(2, 1, &[fiduciary, 2, 1]).add(10, 1, &[long]);
+        let book = book.add(10, 3 | (2 + 1) << 4, &[substitute]);
+        let book = book.add(10, 2 | (3 + 1) << 4, &[cancellable]);
+        book.rows().row(21)
+    };
+    for (amount, figure) in [1_000, 0, 500, 100, 100].into_iter().enumerate() {
+        for by in [0, 1, 7, -7] {
+            let exact = 38_000 + figure * i64::from(by);
+            assert_eq!(row_21(amount, by), exact);
+        }
+    }
 }
 
 #[test]
