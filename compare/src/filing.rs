@@ -150,6 +150,7 @@ pub struct Pairs {
     accepted_marks: u64,
     refused_marks: u64,
     further_covers: u64,
+    exact_corrections: u64,
     bounded_corrections: u64,
     netted_corrections: u64,
 }
@@ -167,11 +168,13 @@ impl Pairs {
         self.further_covers += 1;
     }
 
-    /// A book and the same with this amount corrected, which has a ceiling or not.
+    /// A book and the same with this amount corrected, which has an exact effect,
+    /// only a ceiling, or neither.
     pub fn correction(&mut self, amount: Amount) {
-        match amount.ceiling() {
-            Some(_) => self.bounded_corrections += 1,
-            None => self.netted_corrections += 1,
+        match (amount.effect(), amount.ceiling()) {
+            (Some(_), _) => self.exact_corrections += 1,
+            (None, Some(_)) => self.bounded_corrections += 1,
+            (None, None) => self.netted_corrections += 1,
         }
     }
 
@@ -179,10 +182,9 @@ impl Pairs {
         let [accepted, refused] = [self.accepted_marks, self.refused_marks];
         println!("pairs with more marks: accepted {accepted}, refused {refused}");
         println!("pairs with further covers: {}", self.further_covers);
-        let [bounded, netted] = [self.bounded_corrections, self.netted_corrections];
-        println!(
-            "pairs with one amount corrected: with a ceiling {bounded}, netted values {netted}"
-        );
+        let (exact, bounded) = (self.exact_corrections, self.bounded_corrections);
+        let netted = self.netted_corrections;
+        println!("pairs with one amount corrected: with an exact effect {exact}, with a ceiling alone {bounded}, netted values {netted}");
     }
 
     /// That pairs of each sort came.
@@ -191,7 +193,8 @@ impl Pairs {
             (self.accepted_marks, "accepted pair with more marks"),
             (self.refused_marks, "refused pair with more marks"),
             (self.further_covers, "pair with further covers"),
-            (self.bounded_corrections, "correction with a ceiling"),
+            (self.exact_corrections, "correction with an exact effect"),
+            (self.bounded_corrections, "correction with a ceiling alone"),
             (self.netted_corrections, "correction of a netted value"),
         ] {
             if count == 0 {

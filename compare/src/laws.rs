@@ -3,7 +3,7 @@
 
 mod corrections;
 
-pub use corrections::{correction, CEILING, CONVERSION};
+pub use corrections::{conversion, correction, CEILING, CONVERSION, FURTHER_CEILING};
 
 use crate::filing::{same_entries, Buffers, Lengths};
 use crate::model::{Answer, Entry, FIRST_RECORD, ROWS};

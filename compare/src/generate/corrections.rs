@@ -73,8 +73,8 @@ impl Amount {
         matches!(self, Amount::Value { netted: true, .. })
     }
 
-    /// Of one sort are all off-balance notionals: of some of the many classes there
-    /// is often one, and other amounts would come seldom.
+    /// All off-balance notionals are of one sort: one for each pair of classes would
+    /// crowd the others out.
     fn is_of_sort(self, other: Self) -> bool {
         let off_balance = |amount| matches!(amount, Amount::OffBalance { .. });
         self == other || off_balance(self) && off_balance(other)

@@ -16,16 +16,18 @@ const UNIT: i64 = 1_000;
 /// The most by which row 21 moves for a unit of the correction: the unit itself,
 /// and twice that where the value lent counts once more as further exposure.
 pub const CEILING: i64 = UNIT;
-const FURTHER_CEILING: i64 = 2 * UNIT;
+pub const FURTHER_CEILING: i64 = 2 * UNIT;
 
 /// Conversion figures by class.
 pub const CONVERSION: [i64; 11] = [200, 500, 100, 1000, 1000, 500, 500, 200, 1000, 500, 100];
 
 /// The figure of an item: the lower of two where it is committed to another.
-fn conversion(class: u32, committed: u32) -> i64 {
-    let figure = |class: u32| CONVERSION[class as usize];
-    let second = committed.checked_sub(1).map(figure);
-    second.map_or(figure(class), |second| second.min(figure(class)))
+pub fn conversion(class: u32, committed: u32) -> i64 {
+    let own = CONVERSION[class as usize];
+    match committed {
+        0 => own,
+        _ => own.min(CONVERSION[committed as usize - 1]),
+    }
 }
 
 impl Amount {
@@ -42,7 +44,7 @@ impl Amount {
 
     /// What each unit by which it is raised adds to row 21, where that is the same
     /// in every book.
-    fn effect(self) -> Option<i64> {
+    pub fn effect(self) -> Option<i64> {
         match self {
             Amount::Carrying { fiduciary: false } => Some(UNIT),
             Amount::Carrying { fiduciary: true } => Some(0),
@@ -70,6 +72,18 @@ impl Amount {
     }
 }
 
+/// By just the effect, or within the ceiling where there is no exact one.
+fn row_21_moves(amount: Amount, raised: i64, moved: i64) -> Result<(), String> {
+    match (amount.effect(), amount.ceiling()) {
+        (Some(effect), _) => ensure(moved == effect * raised, "row 21 moves by another figure"),
+        (None, Some(ceiling)) => {
+            let most = ceiling * raised.abs();
+            ensure(moved.abs() <= most, "row 21 moves too far")
+        }
+        (None, None) => Ok(()),
+    }
+}
+
 /// A book and the same with this amount raised by so many units, or lowered where
 /// they are negative, both accepted.
 pub fn correction(
@@ -83,16 +97,10 @@ pub fn correction(
     same_answer(first, second)?;
     same_register(first_side, second_side)?;
     let (before, after) = (&first_side.rows, &second_side.rows);
+    let moved = after[20] - before[20];
+    row_21_moves(amount, raised, moved)?;
     others_stay(before, after, amount.rows())?;
     sums(after)?;
-    let moved = after[20] - before[20];
-    if let Some(effect) = amount.effect() {
-        ensure(moved == effect * raised, "row 21 moves by another figure")?;
-    }
-    if let Some(ceiling) = amount.ceiling() {
-        let most = ceiling * raised.abs();
-        ensure(moved.abs() <= most, "row 21 moves too far")?;
-    }
     if moved <= 0 {
         no_worse(first, before, second, after)?;
     }

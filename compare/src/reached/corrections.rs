@@ -2,7 +2,7 @@
 
 use super::{Feature, Reached, Record, LARGEST};
 use crate::generate::{Amount, Correction};
-use crate::laws::{CEILING, CONVERSION};
+use crate::laws::{conversion, CEILING, CONVERSION, FURTHER_CEILING};
 use crate::model::kinds;
 
 /// How far something moves the way the amount does, against the most that is
@@ -13,16 +13,12 @@ const WHOLE: u32 = 2;
 const BEYOND: u32 = 3;
 const AGAINST: u32 = 4;
 
-/// The amounts that have a ceiling, with how far they move row 21 against it.
-const BOUNDED: [(&str, &[u32]); 5] = [
-    (CARRYING, &[STAYS, WHOLE]),
-    (OFF_BALANCE, &[PART, WHOLE]),
+/// The amounts that have only a ceiling, with how far they move row 21 against it.
+const BOUNDED: [(&str, &[u32]); 3] = [
     (VALUE, &[STAYS, PART, WHOLE]),
     (LENT, &[STAYS, PART, WHOLE]),
     (LENT_FURTHER, &[PART, WHOLE]),
 ];
-const CARRYING: &str = "carrying amount: rises, row 21 moves";
-const OFF_BALANCE: &str = "off-balance notional: rises, row 21 moves";
 const VALUE: &str = "value: rises, row 21 moves";
 const LENT: &str = "value lent: rises, row 21 moves";
 const LENT_FURTHER: &str = "value lent with further exposure: rises, row 21 moves";
@@ -86,16 +82,6 @@ pub fn list() -> Vec<Feature> {
     list
 }
 
-fn bounded(amount: Amount) -> &'static str {
-    match amount {
-        Amount::Carrying { .. } => CARRYING,
-        Amount::OffBalance { .. } => OFF_BALANCE,
-        Amount::Value { .. } => VALUE,
-        Amount::Lent { further: false, .. } => LENT,
-        Amount::Lent { further: true, .. } => LENT_FURTHER,
-    }
-}
-
 /// A correction, with its record and set as they are in the corrected book.
 struct Corrected<'a> {
     record: Record<'a>,
@@ -145,12 +131,7 @@ impl Reached {
             distance: correction.raised().abs(),
             along: moved * correction.raised().signum(),
         };
-        let amount = correction.amount;
-        if let Some(ceiling) = amount.ceiling() {
-            let moves = corrected.extent(corrected.along, ceiling);
-            self.came(bounded(amount), [corrected.rises(), moves, 0]);
-        }
-        match amount {
+        match correction.amount {
             Amount::Carrying { fiduciary } => self.carrying(&corrected, fiduciary),
             Amount::OffBalance { class, committed } => {
                 self.off_balance(&corrected, class, committed)
@@ -175,16 +156,17 @@ impl Reached {
     }
 
     fn off_balance(&mut self, item: &Corrected, class: u32, committed: u32) {
-        let figure = |class: u32| CONVERSION[class as usize];
-        let second = match committed.checked_sub(1) {
-            None => NONE,
-            Some(other) if figure(other) < figure(class) => LOWER,
-            Some(_) => NOT_LOWER,
+        let second = match committed {
+            0 => NONE,
+            _ if conversion(class, committed) < conversion(class, 0) => LOWER,
+            _ => NOT_LOWER,
         };
         self.came(CONVERTED, [class, second, item.rises()]);
     }
 
     fn value(&mut self, value: &Corrected, exempt: bool) {
+        let moves = value.extent(value.along, CEILING);
+        self.came(VALUE, [value.rises(), moves, 0]);
         if value.changes_sign() {
             self.came(SIGN, [value.record.kind, exempt.into(), value.rises()]);
         }
@@ -214,6 +196,12 @@ impl Reached {
     }
 
     fn lent(&mut self, lent: &Corrected, further: bool) {
+        let (name, ceiling) = match further {
+            false => (LENT, CEILING),
+            true => (LENT_FURTHER, FURTHER_CEILING),
+        };
+        let moves = lent.extent(lent.along, ceiling);
+        self.came(name, [lent.rises(), moves, 0]);
         // Further exposure moves by the whole distance; the remainder is E*.
         let further = i64::from(further) * CEILING * lent.distance;
         let moves = lent.extent(lent.along - further, CEILING);

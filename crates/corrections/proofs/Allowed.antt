@@ -1,5 +1,5 @@
--- What its causes leave in an item that is read: provision and deduction within the carrying amount, and no sign where no negative is allowed. Assumes
--- nothing.
+-- What an item that is read is known to have, since no cause refused it: of an asset, provision and deduction are within the carrying amount; and neither
+-- that nor an off-balance notional has a sign. Assumes nothing.
 use Prim.Native.Nat.{ℕ, _/_, _%_, _^_}
 use mathlib.Core.Path.{_≡_}
 use mathlib.Core.Bool.{Bool, false, _||_}
@@ -42,7 +42,9 @@ no-cause-8 bits amounts next e = cause-none 7 amounts next (cause-none 6 bits (c
 
 item-signless : (ws : List ℕ) (i : Item) (n : ℕ) → ItemRead ws i n → SignlessItem ws i
 unfolding assetFault offBalanceFault
-item-signless ws i n (ItemRead.of-asset w) = no-sign (word ws 1) (or-left (faultyAmount (word ws 1)) _ (or-left (faultyAmount (word ws 1) || faultyAmount (word ws 2)) _ (no-cause-8 _ _ _ (w .fine))))
+item-signless ws i n (ItemRead.of-asset w) =
+    let first-two = or-left (faultyAmount (word ws 1) || faultyAmount (word ws 2)) _ (no-cause-8 _ _ _ (w .fine)) in
+    no-sign (word ws 1) (or-left (faultyAmount (word ws 1)) _ first-two)
 item-signless ws i n (ItemRead.of-derivatives w c) = tt
 item-signless ws i n (ItemRead.of-financing w c) = tt
 item-signless ws i n (ItemRead.of-off-balance w) = no-sign (word ws 1) (no-cause-8 _ _ _ (w .fine))

@@ -30,7 +30,8 @@ module _ {xs ys : List ℕ} {k : ℕ} (o : OneAmount xs ys k) where
       let c = is 3 (λ e. omega arith) in
       rw (q .1, q .0, ← a, ← b, ← c) (Corrected.of-asset (assetAt xs) _ _ (v .1) (w .1) (v .0) (rw (b, c) (w .0)))
 
-  pub off-balance-corrected : Allowed xs (offBalance (offBalanceAt xs)) → Allowed ys (offBalance (offBalanceAt ys)) → spokenOf (roleIn (itemRoles (offBalance (offBalanceAt xs))) k) ≡ true
+  pub off-balance-corrected : Allowed xs (offBalance (offBalanceAt xs)) → Allowed ys (offBalance (offBalanceAt ys))
+      → spokenOf (roleIn (itemRoles (offBalance (offBalanceAt xs))) k) ≡ true
       → Corrected (word xs k) (word ys k) (roleIn (itemRoles (offBalance (offBalanceAt xs))) k) (offBalance (offBalanceAt xs)) (offBalance (offBalanceAt ys))
   unfolding offBalanceAt
   off-balance-corrected v w h =

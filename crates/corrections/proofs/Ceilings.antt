@@ -25,5 +25,6 @@ ceiling-spoken Ceiling.of-lent-further = refl
 pub ceilings-hold : CeilingsHold
 ceilings-hold role ceiling c xs ys k rows rows′ register register′ o r e f =
     let t = filings-corrected rows rows′ register register′ o (ap spokenOf r ∙ ceiling-spoken c) e f in
-    let moved = one-apart (λ (p : Placed). exposureOf (t .bands) (p .item)) (t .items) (ceiling * units xs ys k) (λ p q d. corrected-ceiling (t .bands) (rw r at d) c) in
-    rw (t .first-row, t .second-row, whole-apart (sumOver (exposureOf (t .bands)) (itemsOf xs .records)) (sumOver (exposureOf (t .bands)) (itemsOf ys .records))) moved
+    let exposure = exposureOf (t .bands) in
+    let moved = one-apart (λ (p : Placed). exposure (p .item)) (t .items) (ceiling * units xs ys k) (λ p q d. corrected-ceiling (t .bands) (rw r at d) c) in
+    rw (t .first-row, t .second-row, whole-apart (sumOver exposure (itemsOf xs .records)) (sumOver exposure (itemsOf ys .records))) moved

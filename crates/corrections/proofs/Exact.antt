@@ -71,5 +71,6 @@ pub notional-exact : (bands : Bands) (o : OffBalance) {figure : ℕ} → Effect 
     → Exactly (λ n. exposureOf bands (offBalance (ofNotional n o))) figure 0
 notional-exact bands o Effect.of-off-balance = record { adds = λ n d h. omega arith }
 
-pub notional-within : (class committed : ℕ) {ceiling : ℕ} → Ceiling (offBalanceNotional class committed) ceiling → EffectWithin (offBalanceNotional class committed) ceiling
+pub notional-within : (class committed : ℕ) {ceiling : ℕ} → Ceiling (offBalanceNotional class committed) ceiling
+    → EffectWithin (offBalanceNotional class committed) ceiling
 notional-within class committed Ceiling.of-off-balance = record { figure = _; effect = Effect.of-off-balance; within = conversion-at-most class committed }

@@ -1,11 +1,11 @@
 -- The pairs of books in which one amount is corrected, by computation; and what follows: no ceiling can be lowered, a netted value has none below
--- 601,000, and no other figure is an exact effect. Assumes nothing.
+-- 601,000, and no other figures are the exact effects of five amounts. Assumes nothing.
 use Prim.Native.Nat.{ℕ, _+_, _*_, _≤_, _<_}
 use mathlib.Core.Path.{_≡_, refl, sym, ap}
 use mathlib.Core.List.{List, [], flatMap}
 use native.Mathlib.Omega.{arith}
 use native.Mathlib.Nat.{le-antisymm, mul-le-mul-right, le-of-mul-le-mul-right}
-use lib.IntN.{pos, natAbs, _+ℤ_}
+use lib.IntN.{pos, natAbs}
 use lib.ListN.{length, set, length-set}
 use lib.Seq.{getD-set-other}
 use Rattle.rules.specs.Word.{word, kindOf, gainOf, lossOf}
@@ -23,9 +23,9 @@ use Rattle.rules.specs.Register.{drawsFrom, drawsOf, drawsOver, unfitFor, drawF
 use Rattle.rules.specs.Filing.{recordsOutcome, admission, outcomeOf, filing}
 use Rattle.rules.specs.TwoDesks.{exposureIn}
 use Rattle.corrections.specs.Roles.{Role, roleAt}
-use Rattle.corrections.specs.Claims.{signedOf, units, NoLower, LowestCeilings}
+use Rattle.corrections.specs.Claims.{units, NoLower, LowestCeilings}
 use Rattle.corrections.specs.Effects.{OnlyFigure, OnlyFigures}
-use Rattle.corrections.specs.Pairs.{lentRows, Pair, PairsMove, PairsRise}
+use Rattle.corrections.specs.Pairs.{lentRows, Pair, PairsMove, Rise, PairsRise}
 use Rattle.corrections.proofs.Apart.{gap, whole-apart}
 
 -- a book with another amount at a place is equal to it but for that
@@ -59,11 +59,11 @@ computed = (
     of-netted-value = made (omega arith) refl refl refl refl refl refl refl refl;
   },
   record {
-    of-carrying = made (omega arith) refl refl refl refl refl refl refl refl;
-    of-off-balance = made (omega arith) refl refl refl refl refl refl refl refl;
-    of-lower-second = made (omega arith) refl refl refl refl refl refl refl refl;
-    of-higher-second = made (omega arith) refl refl refl refl refl refl refl refl;
-    of-fiduciary = made (omega arith) refl refl refl refl refl refl refl refl;
+    of-carrying = record { pair = made (omega arith) refl refl refl refl refl refl refl refl; raised = refl };
+    of-off-balance = record { pair = made (omega arith) refl refl refl refl refl refl refl refl; raised = refl };
+    of-lower-second = record { pair = made (omega arith) refl refl refl refl refl refl refl refl; raised = refl };
+    of-higher-second = record { pair = made (omega arith) refl refl refl refl refl refl refl refl; raised = refl };
+    of-fiduciary = record { pair = made (omega arith) refl refl refl refl refl refl refl refl; raised = refl };
   },
 )
 
@@ -90,21 +90,21 @@ lowest-ceilings = record {
   of-netted-value = attained _ (pairs-move .of-netted-value) (omega arith) refl;
 }
 
--- where a pair rises by a figure, no other holds
-only : {xs : List ℕ} {k amount : ℕ} {role : Role} {d before after : ℕ} (figure : ℕ) → Pair xs k amount role d before after
-    → signedOf (word (set xs k amount) k) ≡ signedOf (word xs k) +ℤ pos d → 0 < d → after ≡ before + figure * d → OnlyFigure role figure
-only {xs} {k} {amount} {role} {d} {before} {after} figure p larger some e other holds =
-    let m = holds xs (set xs k amount) k d (lentRows 23) (lentRows 22) [] [] (p .alike) (p .role-is) larger (p .first-accepted) (p .second-accepted) in
+-- where a pair rises by a figure, no other holds of all
+only : {xs : List ℕ} {k amount : ℕ} {role : Role} {d before after : ℕ} (figure : ℕ) → Rise xs k amount role d before after → 0 < d → after ≡ before + figure * d
+    → OnlyFigure role figure
+only {xs} {k} {amount} {role} {d} {before} {after} figure r some e other holds =
+    let p = r .pair in
+    let m = holds xs (set xs k amount) k d (lentRows 23) (lentRows 22) [] [] (p .alike) (p .role-is) (r .raised) (p .first-accepted) (p .second-accepted) in
     let n : pos after ≡ pos (before + other * d) = rw (p .first-row, p .second-row) at m in
     let same : other * d ≡ figure * d = omega (arith, ap natAbs n) in
     le-antisymm (le-of-mul-le-mul-right (omega arith) some) (le-of-mul-le-mul-right (omega arith) some)
 
 pub only-figures : OnlyFigures
-unfolding gainOf lossOf
 only-figures = record {
-  of-carrying = only _ (pairs-rise .of-carrying) refl (omega arith) refl;
-  of-off-balance = only _ (pairs-rise .of-off-balance) refl (omega arith) refl;
-  of-lower-second = only _ (pairs-rise .of-lower-second) refl (omega arith) refl;
-  of-higher-second = only _ (pairs-rise .of-higher-second) refl (omega arith) refl;
-  of-fiduciary = only _ (pairs-rise .of-fiduciary) refl (omega arith) refl;
+  of-carrying = only _ (pairs-rise .of-carrying) (omega arith) refl;
+  of-off-balance = only _ (pairs-rise .of-off-balance) (omega arith) refl;
+  of-lower-second = only _ (pairs-rise .of-lower-second) (omega arith) refl;
+  of-higher-second = only _ (pairs-rise .of-higher-second) (omega arith) refl;
+  of-fiduciary = only _ (pairs-rise .of-fiduciary) (omega arith) refl;
 }

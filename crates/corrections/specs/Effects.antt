@@ -22,6 +22,10 @@ pub data Effect : Role → ℕ → Type 0 where
   -- "with the fiduciary mark it is exactly 0"
   of-fiduciary : Effect (carrying true) 0
 
+-- the amount at a place, with its sign, is larger by d units in the second book
+abbrev pub Raised : (xs ys : List ℕ) (k d : ℕ) → Type 0
+Raised xs ys k d = signedOf (word ys k) ≡ signedOf (word xs k) +ℤ pos d
+
 -- for every two accepted books that are equal but for an amount, which is of this role and larger by d units in the second: row 21 of the second is that of
 -- the first and so many thousandths for each unit; whatever their rows and registers hold and however long they are
 abbrev pub RisesBy : Role → ℕ → Type 0
@@ -29,7 +33,7 @@ RisesBy role figure =
     (xs ys : List ℕ) (k d : ℕ) (rows rows′ : List ℤ) (register register′ : List Entry)
     → OneAmount xs ys k
     → roleAt xs k ≡ role
-    → signedOf (word ys k) ≡ signedOf (word xs k) +ℤ pos d
+    → Raised xs ys k d
     → filing xs rows register .number ≡ 0
     → filing ys rows′ register′ .number ≡ 0
     → exposureIn (filing ys rows′ register′) ≡ exposureIn (filing xs rows register) +ℤ pos (figure * d)
@@ -40,6 +44,7 @@ EffectsExact = (role : Role) (figure : ℕ) → Effect role figure → RisesBy r
 
 -- ---- no other figure holds
 
+-- of all such pairs of books
 abbrev pub OnlyFigure : Role → ℕ → Type 0
 OnlyFigure role figure = (other : ℕ) → RisesBy role other → other ≡ figure
 

@@ -12,6 +12,7 @@ use Rattle.cuts.specs.Words.{OneAmount}
 use Rattle.theorems.specs.Samples.{headWord, minus, bookOf, setOf, tradeOf, financingOf}
 use Rattle.corrections.specs.Roles.{Role, carrying, offBalanceNotional, value, lent, roleAt}
 use Rattle.corrections.specs.Claims.{units}
+use Rattle.corrections.specs.Effects.{Raised}
 
 -- ---- items in words
 
@@ -29,7 +30,7 @@ anOffBalanceItem class committed notional = headWord 10 (class + committed * 2 ^
 
 -- class 3, which is converted in full
 abbrev aCreditSubstitute : (notional : ℕ) → List ℕ
-aCreditSubstitute notional = headWord 10 3 ∷ notional ∷ []
+aCreditSubstitute notional = anOffBalanceItem 3 0 notional
 
 -- by the netting mark alone, with no margin and no collateral
 abbrev aSet : (netting : ℕ) → List ℕ
@@ -95,10 +96,15 @@ pub record PairsMove : Type 0 where
 abbrev pub fiveAmounts : List ℕ
 fiveAmounts = bookWith (anAsset 20 ++ aFiduciaryAsset 20 ++ anOffBalanceItem 1 0 30 ++ anOffBalanceItem 3 (1 + 2) 30 ++ anOffBalanceItem 2 (1 + 3) 30)
 
--- each of the five raised by 7 units
+-- a pair in which the amount is raised by d units
+pub record Rise (xs : List ℕ) (k amount : ℕ) (role : Role) (d before after : ℕ) : Type 0 where
+  pub pair : Pair xs k amount role d before after
+  pub raised : Raised xs (set xs k amount) k d
+
+-- each of the five by 7
 pub record PairsRise : Type 0 where
-  pub of-carrying : Pair fiveAmounts 4 27 (carrying false) 7 38000 45000
-  pub of-off-balance : Pair fiveAmounts 12 37 (offBalanceNotional 1 0) 7 38000 41500
-  pub of-lower-second : Pair fiveAmounts 14 37 (offBalanceNotional 3 (1 + 2)) 7 38000 38700
-  pub of-higher-second : Pair fiveAmounts 16 37 (offBalanceNotional 2 (1 + 3)) 7 38000 38700
-  pub of-fiduciary : Pair fiveAmounts 8 27 (carrying true) 7 38000 38000
+  pub of-carrying : Rise fiveAmounts 4 27 (carrying false) 7 38000 45000
+  pub of-off-balance : Rise fiveAmounts 12 37 (offBalanceNotional 1 0) 7 38000 41500
+  pub of-lower-second : Rise fiveAmounts 14 37 (offBalanceNotional 3 (1 + 2)) 7 38000 38700
+  pub of-higher-second : Rise fiveAmounts 16 37 (offBalanceNotional 2 (1 + 3)) 7 38000 38700
+  pub of-fiduciary : Rise fiveAmounts 8 27 (carrying true) 7 38000 38000

@@ -76,7 +76,7 @@ set netting exempt
 sold value=3
 financing
 repo settles-net gross=9 securities=1 receivable=2 payable=3 lent=4 received=5 days=6
-commitment class=long to=short notional=8
+commitment class=long to=cancellable notional=8
 financing netting
 repo lent=4
 financing agent
@@ -90,8 +90,8 @@ fn just_these_amounts_are_corrected() {
     let value = |netted, exempt| Amount::Value { netted, exempt };
     let lent = |agent, further| Amount::Lent { agent, further };
     let carrying = |fiduciary| Amount::Carrying { fiduciary };
-    let (class, committed) = (1, 1);
-    let committed_to_short = Amount::OffBalance { class, committed };
+    let (class, committed) = (1, 2 + 1);
+    let commitment = Amount::OffBalance { class, committed };
     // By the record, counted from the head on, and the place in it.
     let expected = BTreeMap::from([
         ((2, 1), carrying(false)),
@@ -105,7 +105,7 @@ fn just_these_amounts_are_corrected() {
         ((14, 1), value(true, false)),
         ((16, 1), value(true, true)),
         ((18, 5), lent(false, false)),
-        ((19, 1), committed_to_short),
+        ((19, 1), commitment),
         ((21, 5), lent(false, false)),
         ((23, 5), lent(true, false)),
         ((25, 5), lent(true, true)),

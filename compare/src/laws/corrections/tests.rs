@@ -13,6 +13,8 @@ const FIRST: Answer = Answer {
 
 const RAISED: i64 = 3;
 
+const ANOTHER_FIGURE: &str = "row 21 moves by another figure";
+
 const CARRYING: Amount = Amount::Carrying { fiduciary: false };
 const FIDUCIARY: Amount = Amount::Carrying { fiduciary: true };
 const VALUE: Amount = value(false, false);
@@ -68,19 +70,22 @@ fn exact_effects_and_no_others() {
         (off_balance(3, 2 + 1), 17, 100),
         (off_balance(2, 3 + 1), 17, 100),
         (off_balance(7, 1), 17, 200),
+        (FIDUCIARY, 1, 0),
     ] {
         let exact = effect * RAISED;
         assert_eq!(held(amount, &with(row, exact)), Ok(()), "{amount:?}");
         let lowered = held_by(amount, -RAISED, &with(row, -exact));
         assert_eq!(lowered, Ok(()), "{amount:?}");
-        for moved in [exact + 1, exact - 1, 0, -exact] {
+        for moved in [exact + 1, exact - 1] {
             let failed = held(amount, &with(row, moved));
-            let expected = "row 21 moves by another figure".to_string();
-            assert_eq!(failed, Err(expected), "{amount:?}");
+            assert_eq!(failed, Err(ANOTHER_FIGURE.to_string()), "{amount:?}");
         }
     }
-    assert_eq!(held(FIDUCIARY, &with(1, 0)), Ok(()));
-    assert_eq!(held_by(FIDUCIARY, -RAISED, &with(1, 0)), Ok(()));
+    // It falls where the amount is raised, and the other way round.
+    for (raised, moved) in [(RAISED, -1_000 * RAISED), (-RAISED, 1_000 * RAISED)] {
+        let failed = held_by(CARRYING, raised, &with(1, moved));
+        assert_eq!(failed, Err(ANOTHER_FIGURE.to_string()));
+    }
 }
 
 #[test]
@@ -111,28 +116,34 @@ fn netted_values_have_no_ceiling() {
 
 #[test]
 fn rows_without_the_amount_stay() {
-    for (amount, row, changed) in [
-        (CARRYING, 2, 2),
-        (FIDUCIARY, 1, 1),
-        (off_balance(0, 0), 1, 1),
-        (VALUE, 5, 5),
-        (VALUE, 8, 8),
-        (value(true, false), 8, 8),
+    let carried = 1_000 * RAISED;
+    let converted = 200 * RAISED;
+    for (amount, row, more, changed) in [
+        (CARRYING, 2, carried, 2),
+        (off_balance(0, 0), 1, converted, 1),
+        (VALUE, 5, 1, 5),
+        (VALUE, 8, 1, 8),
+        (value(true, false), 8, 1, 8),
         // Rows 4 and 8 of an exempt set move against each other.
-        (value(false, true), 4, 11),
-        (value(true, true), 5, 11),
-        (PRINCIPAL, 15, 15),
-        (AGENT, 14, 14),
-        (FURTHER, 14, 14),
-        (AGENT, 13, 13),
-        (AGENT, 20, 20),
+        (value(false, true), 4, 1, 11),
+        (value(true, true), 5, 1, 11),
+        (PRINCIPAL, 15, 1, 15),
+        (AGENT, 14, 1, 14),
+        (FURTHER, 14, 1, 14),
+        (AGENT, 13, 1, 13),
+        (AGENT, 20, 1, 20),
     ] {
-        let failed = held(amount, &with(row, 1));
+        let failed = held(amount, &with(row, more));
         let expected = format!("another row {changed}");
         assert_eq!(failed, Err(expected), "{amount:?}");
     }
-    let behind = with(ROWS + 1, 1);
-    let failed = held(CARRYING, &behind);
+    let mut shifted = with(1, 1);
+    shifted.rows[1] -= 1;
+    shifted.rows[2] -= 1;
+    shifted.rows[20] -= 1;
+    let failed = held(FIDUCIARY, &shifted);
+    assert_eq!(failed, Err("another row 1".to_string()));
+    let failed = held(VALUE, &with(ROWS + 1, 1));
     assert_eq!(failed, Err("rows behind the last stay".to_string()));
 }
 

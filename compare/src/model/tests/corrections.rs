@@ -48,23 +48,10 @@ fn value_without_netting() {
     }
 }
 
+/// By hand: 20 less 3, and nothing of the fiduciary one; half of 30, and twice a
+/// tenth of it, the lower of a credit substitute's and a cancellable commitment's.
 #[test]
-fn carrying_amount_and_off_balance_notional() {
-    let asset = |marks: u32| move |carrying: i32| Book::new(0, 0).add(2, marks, &[carrying, 2, 3]);
-    assert_eq!(moved(asset(0), 5, 8), 3_000);
-    assert_eq!(moved(asset(0), 8, 5), -3_000);
-    assert_eq!(moved(asset(1), 5, 8), 0);
-    let item = |classes: u32| move |notional: i32| Book::new(0, 0).add(10, classes, &[notional]);
-    assert_eq!(moved(item(3), 5, 8), 3_000);
-    assert_eq!(moved(item(1), 8, 5), -1_500);
-    // A credit substitute committed to as cancellable: the lower counts.
-    assert_eq!(moved(item(3 | 3 << 4), 5, 8), 300);
-}
-
-/// By hand: 20 less 3, and no more of a fiduciary one; half of 30, and a tenth of
-/// it twice, which is the lower of a cancellable commitment and a credit substitute.
-#[test]
-fn each_amount_by_its_own_figure() {
+fn carrying_amounts_and_off_balance_notionals() {
     let row_21 = |raised: usize, by: i32| {
         let mut amounts = [20, 20, 30, 30, 30];
         amounts[raised] += by;
@@ -76,11 +63,14 @@ fn each_amount_by_its_own_figure() {
         book.rows().row(21)
     };
     for (amount, figure) in [1_000, 0, 500, 100, 100].into_iter().enumerate() {
-        for by in [0, 1, 7, -7] {
+        // Down to provision and deduction.
+        for by in [0, 1, 7, -17] {
             let exact = 38_000 + figure * i64::from(by);
             assert_eq!(row_21(amount, by), exact);
         }
     }
+    let in_full = |notional: i32| Book::new(0, 0).add(10, 3, &[notional]);
+    assert_eq!(moved(in_full, 8, 5), -3_000);
 }
 
 #[test]
