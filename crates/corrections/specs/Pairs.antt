@@ -30,7 +30,7 @@ anOffBalanceItem class committed notional = headWord 10 (class + committed * 2 ^
 
 -- class 3, which is converted in full
 abbrev aCreditSubstitute : (notional : ℕ) → List ℕ
-aCreditSubstitute notional = anOffBalanceItem 3 0 notional
+aCreditSubstitute notional = headWord 10 3 ∷ notional ∷ []
 
 -- by the netting mark alone, with no margin and no collateral
 abbrev aSet : (netting : ℕ) → List ℕ
