@@ -1,1 +1,2 @@
 pub mod PackLaws
+pub mod PutCalls

@@ -1,26 +1,16 @@
-// The entry point for C: a slice passes as a pointer and a length.
-use filing::Answer;
+// The entry points for C: a slice passes as a pointer and a length.
+use crate::packed::pack;
+use crate::stretch::put;
+use filing::admit::admit;
 use filing::file::file;
 use rules::Entry;
-use rules::verdicts;
 ghost use mathlib.Core.Path.{_≡_};
-ghost use Rattle.rules.specs.Filing.{filing};
-ghost use Rattle.leverage.specs.Packed.{packed, packedAnswer};
-
-// The verdict of a refused book, in its place.
-const REFUSED: u64 = 256 * (verdicts::REFUSED as u64);
-
-// Number, verdict and place in one number: the number in bits 0-7, the verdict in bits 8-15, the place from bit 16 on.
-fn pack(a: Answer) -> u64
-    ensures { λ r. ⌜ r ≡ packedAnswer a ⌝ }
-{
-    match a {
-        Answer::Refused { number, place } => number as u64
-            + REFUSED
-            + 65536 * (place as u64 % 4294967296),
-        Answer::Accepted(verdict) => 256 * (verdict as u64),
-    }
-}
+ghost use lib.ListN.{length};
+ghost use denote.Ref.{now, ptr};
+ghost use Rattle.rules.specs.Read.{headOf};
+ghost use Rattle.rules.specs.Filing.{admission, filing, registerAfter};
+ghost use Rattle.sets.specs.Sets.{VeryStretch, showing};
+ghost use Rattle.leverage.specs.Packed.{packed, packedShown};
 
 // As `file`, with the answer packed.
 #[no_mangle]
@@ -30,4 +20,21 @@ pub extern "C" fn leverage_file(book: &[u32], rows: &mut [i64], register: &mut [
         × (now (register .exit) ≡ filing (now (book .entry)) (now (rows .entry)) (now (register .entry)) .register)) ⌝ }
 {
     pack(file(book, rows, register))
+}
+
+// As `show` of crate sets, with number and place packed and the stretch written where the caller has lent room for it: a pointer and a count,
+// into the caller's own book.
+#[no_mangle]
+pub extern "C" fn leverage_show<'a>(
+    book: &'a [u32],
+    ordinal: usize,
+    register: &mut [Entry],
+    stretch: &mut &'a [u32],
+) -> u64
+    ensures { λ r. ⌜ VeryStretch (book .entry) (showing (now (book .entry)) ordinal (length (now (register .entry)))) (now (stretch .exit))
+        × ((r ≡ packedShown (showing (now (book .entry)) ordinal (length (now (register .entry)))))
+        × (now (register .exit) ≡ registerAfter (headOf (now (book .entry))) (admission (now (book .entry)) (length (now (register .entry)))) (now (register .entry)))) ⌝ }
+{
+    let a = admit(book, register);
+    put(book, ordinal, a, stretch)
 }

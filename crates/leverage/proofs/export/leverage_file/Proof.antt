@@ -57,10 +57,10 @@ use Rattle.filing.proofs.file.file as filed′
 use Rattle.filing.proofs.file.file.Symbol as file-def
 use Rattle.filing.proofs.file.file.Symbol.{name as #file}
 use Rattle.filing.proofs.file.file.Met as file-thm
-use Rattle.leverage.proofs.export.pack as pack′
-use Rattle.leverage.proofs.export.pack.Symbol as pack-def
-use Rattle.leverage.proofs.export.pack.Symbol.{name as #pack}
-use Rattle.leverage.proofs.export.pack.Met as pack-thm
+use Rattle.leverage.proofs.packed.pack as pack′
+use Rattle.leverage.proofs.packed.pack.Symbol as pack-def
+use Rattle.leverage.proofs.packed.pack.Symbol.{name as #pack}
+use Rattle.leverage.proofs.packed.pack.Met as pack-thm
 use Rattle.leverage.proofs.export.leverage_file.Key.{name as #export}
 use Rattle.leverage.proofs.export.leverage_file as export′
 use Rattle.leverage.proofs.export.leverage_file.Statement as stated
@@ -219,4 +219,4 @@ leverage-file-spec 𝓤 H 𝓜 𝓖 𝓡 =
     (tables 𝓤 H 𝓜 𝓡 code.env .C) (tables 𝓤 H 𝓜 𝓡 code.env .Λ) #export code.function (code.unfolded 𝓤 H 𝓜 𝓡)
     (meets 𝓤 H (𝓖 .A) (givenOf 𝓤 H 𝓜 𝓖) (𝓜 .mem) (𝓡 .run) (tablesOf 𝓤 H 𝓜 (tables 𝓤 H 𝓜 𝓡 code.env))
     (cited 𝓤 H (File 𝓤 H (𝓖 .A) (𝓜 .mem) (𝓡 .run)) 𝓜 𝓡 code.env #file file-def.routine code.calls-filing·file·file (file-thm.met 𝓤 H 𝓜 𝓖 𝓡))
-    (cited 𝓤 H (Pack 𝓤 H (𝓖 .A) (𝓜 .mem) (𝓡 .run)) 𝓜 𝓡 code.env #pack pack-def.routine code.calls-leverage·export·pack (pack-thm.met 𝓤 H 𝓜 𝓖 𝓡)))
+    (cited 𝓤 H (Pack 𝓤 H (𝓖 .A) (𝓜 .mem) (𝓡 .run)) 𝓜 𝓡 code.env #pack pack-def.routine code.calls-leverage·packed·pack (pack-thm.met 𝓤 H 𝓜 𝓖 𝓡)))

@@ -1,0 +1,4 @@
+pub mod Sets
+pub mod Search
+pub mod Claims
+pub mod Samples

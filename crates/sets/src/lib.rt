@@ -1,0 +1,14 @@
+// Request A.1, "Show me the set": the words of a set, as a part of the lent book.
+mod answer;
+pub mod bounds;
+mod search;
+pub mod show;
+mod sought;
+
+// The number and the place that are answered, and from which place of the book to which the stretch goes.
+pub struct Shown {
+    pub number: u32,
+    pub place: usize,
+    pub begin: usize,
+    pub end: usize,
+}
