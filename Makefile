@@ -1,4 +1,4 @@
-# make run:     file a sample book and print its template.
+# make run:     file a sample book, or BOOK=FILE, and print its template; with SET=1, the words of one of its sets, counted from 0.
 # make test:    the gate, .ci/run.
 # make samples: write the books of leverage_samples and the lines expected of it, from the seed.
 # make model:   check the implementation in compare/ by itself, and that those files are the ones it writes.
@@ -16,11 +16,16 @@ COMPARE = target/compare/release/compare
 ARCHIVE = target/staticlib/libleverage.a
 
 .PHONY: run test samples model printing compare example bench printer second library
+ifdef SET
+run: library
+	@$(COMPARE) set $(BOOK) $(SET)
+else
 run: second printer
 	@$(MODEL) text $(BOOK) > target/input
 	@cat $(BOOK)
 	@echo
 	@target/bin/leverage_print < target/input
+endif
 
 test:
 	@.ci/run

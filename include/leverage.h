@@ -1,5 +1,5 @@
 /*
- * The filing of a leverage book, for C. Link with libleverage.a (`rt staticlib leverage`), x86-64.
+ * The filing of a leverage book, and its sets, for C. Link with libleverage.a (`rt staticlib leverage`), x86-64.
  *
  * Example (include/example.c is the same, and prints more):
  *
@@ -44,7 +44,7 @@ struct leverage_entry {
 #define LEVERAGE_ENTRIES 4096
 
 /* Why a book is refused. 1, 2, 3, 16 and 4 come first, in this order; then the first faulty record decides, its causes in the order of their
- * numbers. */
+ * numbers. 15 comes after all of them. */
 enum leverage_cause {
     LEVERAGE_ACCEPTED = 0,
     LEVERAGE_ROWS_SHORT = 1,      /* rows shorter than 22 */
@@ -61,6 +61,7 @@ enum leverage_cause {
     LEVERAGE_COVER_UNFIT = 12,    /* entity, rank or days unfit */
     LEVERAGE_COVER_BEYOND = 13,   /* cover beyond either amount */
     LEVERAGE_END = 14,            /* no end word, wrong count, words after it */
+    LEVERAGE_NO_SET = 15,         /* of leverage_show alone: the book is accepted and has no set of that ordinal */
     LEVERAGE_DATE = 16,           /* reporting date above 36,524 or no good amount */
     LEVERAGE_BASKET = 17          /* basket: n or m outside 1 to 32, n above m, a grade above 31 */
 };
@@ -92,6 +93,33 @@ enum leverage_outcome {
  * elements; no two of the three overlap, and nothing else uses them during the call. Nothing is kept after it. No memory is allocated.
  */
 uint64_t leverage_file(const uint32_t *book, size_t book_len, int64_t *rows, size_t rows_len, struct leverage_entry *reg, size_t reg_len);
+
+/* A stretch of the caller's own book: a pointer into it, and how many words from there on. */
+struct leverage_stretch {
+    const uint32_t *words;
+    size_t count;
+};
+
+/*
+ * Shows a set: the words of the book from the set's head to its last member, its covers and baskets included. Derivative sets (kind 4) and
+ * financing sets (kind 8) are counted together from 0, in the order of the book; any ordinal may be asked for.
+ *
+ * Answers number and place as leverage_file does. There is no verdict: bits 8 to 15 are 3 always, also where the set is shown.
+ *
+ * Shown (number 0): the stretch is that very part of the book, which neither is copied nor moves; it is good as long as the book is.
+ * Refused: number and place of the book's own refusal, or 15 at place 0 where the book is accepted and has no such set. The stretch is empty
+ * and stands at the book's first word.
+ * In every case the register is left as leverage_file leaves it for that book, at 15 as for an accepted book; no rows are lent.
+ *
+ * Book and register are as for leverage_file. The stretch leads to a struct of its own, apart from both, that holds any good pointer and count
+ * before the call: {book, 0} will do.
+ *
+ *     struct leverage_stretch s = {book, 0};
+ *     uint64_t a = leverage_show(book, book_len, 2, reg, reg_len, &s);
+ *     if (leverage_number(a) == LEVERAGE_ACCEPTED)
+ *         ... s.words[0] is the head of the third set, s.words - book its place ...
+ */
+uint64_t leverage_show(const uint32_t *book, size_t book_len, size_t ordinal, struct leverage_entry *reg, size_t reg_len, struct leverage_stretch *stretch);
 
 /* The parts of an answer. */
 static inline uint32_t leverage_number(uint64_t answer) { return (uint32_t)(answer & 0xFF); }

@@ -1,13 +1,19 @@
-//! How long the library takes: on whole books beside two Rust
-//! implementations, and for the weighted add-on alone in three ways.
+//! How long the library takes: on whole books beside two Rust implementations, to
+//! show a set of a book, and for the weighted add-on alone in three ways.
 
 mod addons;
 mod books;
+mod items;
+mod sets;
+
+use std::time::Instant;
 
 const REPETITIONS: usize = 41;
 
 pub fn run() {
     books::run();
+    println!();
+    sets::run();
     println!();
     addons::run();
 }
@@ -37,6 +43,16 @@ impl Timing {
         let pairs = self.times.iter().zip(&other.times);
         middle(pairs.map(|(own, other)| own / other).collect())
     }
+}
+
+/// The time for a word of these books, in ns.
+fn time(books: &[Vec<u32>], mut once: impl FnMut(&[u32])) -> f64 {
+    let words: usize = books.iter().map(Vec::len).sum();
+    let start = Instant::now();
+    for book in books {
+        once(book);
+    }
+    start.elapsed().as_nanos() as f64 / words as f64
 }
 
 fn middle(mut numbers: Vec<f64>) -> f64 {

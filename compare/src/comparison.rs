@@ -1,25 +1,30 @@
 //! The model against another implementation, on the same books and buffers, and
 //! both against what must hold of every filing, on two desks, with further covers
-//! and with one amount corrected.
+//! and with one amount corrected. Sets of each book are shown by both as well.
 
-use crate::filing::{hexadecimal, Buffers, Counts, Filing, Lengths, Pairs};
+mod shows;
+
+use crate::filing::{hexadecimal, Buffers, Counts, Filing, Lengths, Pairs, Showing};
 use crate::generate::{self, corrections, further_covers, more_marks, Correction, Random};
 use crate::model::Answer;
 use crate::reached::Reached;
 use crate::{laws, model};
+use shows::Shows;
 
 /// Books between two changes of the dirt in the buffers.
 const SAME_DIRT: u64 = 64;
 
 /// Another implementation, with the name that a failure gives it.
+#[derive(Clone, Copy)]
 pub struct Peer {
     pub name: &'static str,
     pub file: Filing,
+    pub show: Showing,
 }
 
 pub fn run(peer: Peer, books: u64, seed: u64) -> Result<(), String> {
     let mut random = Random::new(seed);
-    let mut sides = Sides::new(peer, &mut random);
+    let mut sides = Sides::new(peer, seed, &mut random);
     for count in 0..books {
         if count % SAME_DIRT == 0 {
             sides.soil(&mut random);
@@ -30,6 +35,7 @@ pub fn run(peer: Peer, books: u64, seed: u64) -> Result<(), String> {
     println!("books {books}, seed {seed}: no difference");
     sides.counts.print();
     sides.pairs.print();
+    sides.shows.print();
     sides.reached.print();
     sides.counts.complete()?;
     sides.pairs.complete()?;
@@ -52,11 +58,12 @@ struct Sides {
     peer_side: Buffers,
     counts: Counts,
     pairs: Pairs,
+    shows: Shows,
     reached: Reached,
 }
 
 impl Sides {
-    fn new(peer: Peer, random: &mut Random) -> Self {
+    fn new(peer: Peer, seed: u64, random: &mut Random) -> Self {
         let dirt = Buffers::dirty(random);
         Sides {
             peer,
@@ -64,6 +71,7 @@ impl Sides {
             peer_side: dirt,
             counts: Counts::default(),
             pairs: Pairs::default(),
+            shows: Shows::new(peer, seed),
             reached: Reached::default(),
         }
     }
@@ -80,6 +88,9 @@ impl Sides {
         let lengths = Lengths::choose(&book, random);
         let before = self.model_side.clone();
         let answer = self.file(&book, lengths, &before)?;
+        let register = &before.register;
+        self.shows
+            .book(&book, lengths, register, &mut self.reached)?;
         let first = First {
             book,
             lengths,

@@ -5,7 +5,10 @@ mod bands;
 mod baskets;
 mod derivatives;
 mod financing;
+mod sets;
 mod sums;
+
+pub use sets::show;
 
 use crate::model::{Answer, Entry, FIRST_RECORD, LAST_DATE, LONGEST_BOOK, NO_VERDICT, ROWS};
 use bands::{bands, Bands};

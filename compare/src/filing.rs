@@ -4,7 +4,7 @@
 mod tests;
 
 use crate::generate::{Amount, Random};
-use crate::model::{Answer, Entry, ROWS};
+use crate::model::{Answer, Entry, Shown, ROWS};
 
 const MOST_ROWS: usize = 40;
 /// Somewhat more than the largest count of protections.
@@ -99,6 +99,9 @@ pub fn same_entries(ours: &[Entry], theirs: &[Entry]) -> bool {
 }
 
 pub type Filing = fn(&[u32], &mut [i64], &mut [Entry]) -> Answer;
+
+/// The call that shows a set, by its ordinal.
+pub type Showing = for<'a> fn(&'a [u32], usize, &mut [Entry]) -> Shown<'a>;
 
 /// The numbers that a filing answers, in the order in which they are judged.
 /// 15 is of no filing.

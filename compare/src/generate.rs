@@ -1,5 +1,6 @@
 //! Seeded books: valid ones, damaged ones, and the second ones of pairs, with
-//! more marks, with further covers or with one amount corrected.
+//! more marks, with further covers, with one amount corrected, or with a set
+//! doubled, lengthened or put off.
 
 mod corrections;
 mod covers;
@@ -7,6 +8,7 @@ mod damage;
 mod dates;
 mod marks;
 mod random;
+mod sets;
 #[cfg(test)]
 mod tests;
 mod valid;
@@ -15,8 +17,9 @@ pub use corrections::{corrections, Amount, Correction};
 pub use covers::further_covers;
 pub use marks::more_marks;
 pub use random::Random;
+pub use sets::around_a_set;
 
-use crate::model::LONGEST_BOOK;
+use crate::model::{kinds, LONGEST_BOOK};
 
 pub const AMOUNT_LIMIT: u32 = 1 << 27;
 
@@ -62,6 +65,13 @@ pub fn amounts(word: u32) -> usize {
         11 => 2 + names(word) as usize,
         _ => 0,
     }
+}
+
+/// How many sets begin in these words of an accepted book: no other word has the
+/// kind of their heads.
+pub fn sets_in(words: &[u32]) -> usize {
+    let heads = |word: &&u32| matches!(**word >> 28, kinds::DERIVATIVE_SET | kinds::FINANCING_SET);
+    words.iter().filter(heads).count()
 }
 
 /// Writes the count into the last word if that is an end word.

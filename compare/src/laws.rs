@@ -1,9 +1,12 @@
 //! What holds of every filing, of two filings on two desks, and of two where the
-//! second book has further covers or one amount corrected.
+//! second book has further covers or one amount corrected; and of sets that are
+//! shown.
 
 mod corrections;
+mod sets;
 
 pub use corrections::{conversion, correction, CEILING, CONVERSION, FURTHER_CEILING};
+pub use sets::{sets, shown};
 
 use crate::filing::{same_entries, Buffers, Lengths};
 use crate::model::{Answer, Entry, FIRST_RECORD, ROWS};

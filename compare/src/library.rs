@@ -1,7 +1,9 @@
 //! The boundary of the library and of the benchmark's archive, and the only
 //! unsafe code of the package.
 
-use crate::model::{Answer, Entry};
+use std::slice;
+
+use crate::model::{Answer, Entry, Shown};
 
 extern "C" {
     fn leverage_file(
@@ -12,6 +14,21 @@ extern "C" {
         register: *mut Entry,
         register_len: usize,
     ) -> u64;
+    fn leverage_show(
+        book: *const u32,
+        book_len: usize,
+        ordinal: usize,
+        register: *mut Entry,
+        register_len: usize,
+        stretch: *mut Stretch,
+    ) -> u64;
+}
+
+/// A part of the caller's book, as C has it.
+#[repr(C)]
+struct Stretch {
+    words: *const u32,
+    count: usize,
 }
 
 pub fn file(book: &[u32], rows: &mut [i64], register: &mut [Entry]) -> Answer {
@@ -32,6 +49,37 @@ pub fn file(book: &[u32], rows: &mut [i64], register: &mut [Entry]) -> Answer {
         number: (packed & 0xFF) as u32,
         place: (packed >> 16) as usize,
         verdict: (packed >> 8 & 0xFF) as u32,
+    }
+}
+
+/// What a stretch is before the call: no part of any book, so that it is told if
+/// the library leaves it so.
+static UNWRITTEN: [u32; 1] = [0];
+
+/// The verdict in the answer is always the same and is not looked at.
+pub fn show<'a>(book: &'a [u32], ordinal: usize, register: &mut [Entry]) -> Shown<'a> {
+    let mut stretch = Stretch {
+        words: UNWRITTEN.as_ptr(),
+        count: UNWRITTEN.len(),
+    };
+    // SAFETY: as above, and `Stretch` too has the layout of its C struct. It is a
+    // static slice before the call and a part of the book after it, so that it can
+    // be read for as long as the book.
+    let (packed, stretch) = unsafe {
+        let packed = leverage_show(
+            book.as_ptr(),
+            book.len(),
+            ordinal,
+            register.as_mut_ptr(),
+            register.len(),
+            &mut stretch,
+        );
+        (packed, slice::from_raw_parts(stretch.words, stretch.count))
+    };
+    Shown {
+        number: (packed & 0xFF) as u32,
+        place: (packed >> 16) as usize,
+        stretch,
     }
 }
 

@@ -29,6 +29,7 @@ selftest N SEED    check the model, and `fast` with it, on N generated books
 compare N SEED     compare the library with the model (feature `library`)
 bench              time the library and Rust (feature `library`)
 text FILE          turn a text book into little-endian words on standard output
+set FILE ORDINAL   write the records of one set of a text book (feature `library`)
 print              write what the printing program is to write for standard input
 samples N SEED DIR write the books of the test program and its lines";
 
@@ -50,6 +51,7 @@ fn run(arguments: &[&str]) -> Result<(), String> {
         ["compare", books, seed] => compare(number(books)?, number(seed)?),
         ["bench"] => bench(),
         ["text", file] => print_words(file),
+        ["set", file, set] => print_set(file, ordinal(set)?),
         ["print"] => print_template(),
         ["samples", books, seed, folder] => {
             samples::write(number(books)?, number(seed)?, Path::new(folder))
@@ -62,9 +64,18 @@ fn number(text: &str) -> Result<u64, String> {
     text.parse().map_err(|error| format!("{text}: {error}"))
 }
 
-fn print_words(file: &str) -> Result<(), String> {
+fn ordinal(text: &str) -> Result<usize, String> {
+    let no_ordinal = |_| format!("{text} is no ordinal of a set, from 0 to {}", usize::MAX);
+    text.parse().map_err(no_ordinal)
+}
+
+fn words_of(file: &str) -> Result<Vec<u32>, String> {
     let source = fs::read_to_string(file).map_err(|error| format!("{file}: {error}"))?;
-    let words = text::words(&source).map_err(|error| format!("{file}: {error}"))?;
+    text::words(&source).map_err(|error| format!("{file}: {error}"))
+}
+
+fn print_words(file: &str) -> Result<(), String> {
+    let words = words_of(file)?;
     let bytes: Vec<u8> = words.iter().flat_map(|word| word.to_le_bytes()).collect();
     let written = io::stdout().write_all(&bytes);
     written.map_err(|error| error.to_string())
@@ -82,6 +93,7 @@ fn selftest(books: u64, seed: u64) -> Result<(), String> {
     let peer = comparison::Peer {
         name: "fast",
         file: fast::file,
+        show: fast::show,
     };
     comparison::run(peer, books, seed)
 }
@@ -91,8 +103,20 @@ fn compare(books: u64, seed: u64) -> Result<(), String> {
     let peer = comparison::Peer {
         name: "library",
         file: library::file,
+        show: library::show,
     };
     comparison::run(peer, books, seed)
+}
+
+#[cfg(feature = "library")]
+fn print_set(file: &str, ordinal: usize) -> Result<(), String> {
+    /// The most that a book can use.
+    const ENTRIES: usize = 4_096;
+    let book = words_of(file)?;
+    let mut register = vec![model::Entry::default(); ENTRIES];
+    let shown = library::show(&book, ordinal, &mut register);
+    print!("{}", text::set::lines(&book, ordinal, &shown));
+    Ok(())
 }
 
 #[cfg(feature = "library")]
@@ -103,6 +127,11 @@ fn bench() -> Result<(), String> {
 
 #[cfg(not(feature = "library"))]
 fn compare(_books: u64, _seed: u64) -> Result<(), String> {
+    Err("built without the feature `library`".to_string())
+}
+
+#[cfg(not(feature = "library"))]
+fn print_set(_file: &str, _ordinal: usize) -> Result<(), String> {
     Err("built without the feature `library`".to_string())
 }
 

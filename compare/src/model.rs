@@ -10,17 +10,22 @@ mod factors;
 mod head;
 mod records;
 mod refusal;
+mod sets;
 mod template;
 #[cfg(test)]
 mod tests;
 mod weighing;
 mod words;
 
+pub use sets::{show, Shown};
 pub use words::kinds;
+
+use std::ops::Range;
 
 use audit::Audit;
 use head::Head;
 use refusal::{Cause, Refusal};
+use template::Template;
 
 /// Rows of the template.
 pub const ROWS: usize = 22;
@@ -74,27 +79,31 @@ pub fn file(book: &[u32], rows: &mut [i64], register: &mut [Entry]) -> Answer {
 }
 
 fn try_file(book: &[u32], rows: &mut [i64], register: &mut [Entry]) -> Result<u32, Refusal> {
-    let at_start = |cause| Refusal { cause, place: 0 };
+    let rows = rows.get_mut(..ROWS).ok_or(Cause::RowsTooShort.at_start())?;
+    let template = audited(book, register, &mut |_| {})?;
+    rows.copy_from_slice(&template.rows());
+    Ok(template.verdict())
+}
 
-    let rows = rows.get_mut(..ROWS).ok_or(at_start(Cause::RowsTooShort))?;
+/// All that a filing does but for the rows, with word of each set's stretch as
+/// it is passed.
+fn audited(
+    book: &[u32],
+    register: &mut [Entry],
+    passed_set: &mut dyn FnMut(Range<usize>),
+) -> Result<Template, Refusal> {
     if book.len() > LONGEST_BOOK {
-        return Err(at_start(Cause::BookTooLong));
+        return Err(Cause::BookTooLong.at_start());
     }
-    let head = Head::read(book).map_err(at_start)?;
+    let head = Head::read(book).map_err(Cause::at_start)?;
     let register = register
         .get_mut(..head.protections)
-        .ok_or(at_start(Cause::RegisterTooShort))?;
+        .ok_or(Cause::RegisterTooShort.at_start())?;
 
-    let audited = Audit::new(book, &head, register).run();
-    match audited {
-        Ok(template) => {
-            rows.copy_from_slice(&template.rows());
-            Ok(template.verdict())
-        }
-        Err(refusal) => {
-            // A refused book leaves no trace of its protections.
-            register.fill(Entry::default());
-            Err(refusal)
-        }
+    let audited = Audit::new(book, &head, register).run(passed_set);
+    if audited.is_err() {
+        // A refused book leaves no trace of its protections.
+        register.fill(Entry::default());
     }
+    audited
 }

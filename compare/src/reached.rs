@@ -1,6 +1,6 @@
-//! What accepted books make use of, what corrections of them do, and how heads and
-//! baskets are refused. Each thing on the list is counted, and one that never came
-//! is a fault of the generator.
+//! What accepted books make use of, what corrections of them do, which of their sets
+//! are shown, and how heads, baskets and the showing of sets are refused. Each thing
+//! on the list is counted, and one that never came is a fault of the generator.
 
 mod bands;
 mod baskets;
@@ -9,6 +9,7 @@ mod covers;
 mod heads;
 mod kept;
 mod refused_baskets;
+mod sets;
 
 use std::collections::BTreeMap;
 
@@ -37,7 +38,12 @@ pub struct Reached(BTreeMap<Feature, u64>);
 
 impl Default for Reached {
     fn default() -> Self {
-        let others = [corrections::list(), heads::list(), refused_baskets::list()];
+        let others = [
+            corrections::list(),
+            heads::list(),
+            refused_baskets::list(),
+            sets::list(),
+        ];
         Reached::listing(uses().into_iter().chain(others.concat()))
     }
 }
@@ -134,7 +140,7 @@ impl Reached {
     pub fn print(&self) {
         let least = self.0.values().min().copied().unwrap_or_default();
         let features = self.0.len();
-        println!("records, marks, classes, dates, bands, covers, baskets, amounts, corrections, refused heads and baskets: {features} on the list, each {least} times or more");
+        println!("records, marks, classes, dates, bands, covers, baskets, amounts, corrections, refused heads and baskets, shown sets: {features} on the list, each {least} times or more");
     }
 
     fn came(&mut self, name: &'static str, numbers: [u32; 3]) {

@@ -10,6 +10,8 @@
 
 mod date;
 mod forms;
+#[cfg(any(feature = "library", test))]
+pub mod set;
 #[cfg(test)]
 mod tests;
 

@@ -2,6 +2,7 @@
 
 mod corrections;
 mod covers;
+mod sets;
 
 use std::collections::BTreeMap;
 

@@ -1,5 +1,7 @@
 //! The pass over a book: record after record, with the register at hand.
 
+use std::ops::Range;
+
 use super::basket::Basket;
 use super::factors::Bands;
 use super::head::Head;
@@ -37,9 +39,11 @@ impl<'a> Audit<'a> {
         }
     }
 
-    pub fn run(mut self) -> Result<Template, Refusal> {
+    /// Gives word of the stretch of each set, from its head to its last member,
+    /// once the audit has moved behind it.
+    pub fn run(mut self, passed_set: &mut dyn FnMut(Range<usize>)) -> Result<Template, Refusal> {
         self.protections()?;
-        self.items()?;
+        self.items(passed_set)?;
         self.template.close();
         Ok(self.template)
     }
@@ -114,12 +118,12 @@ impl<'a> Audit<'a> {
         Ok(())
     }
 
-    fn items(&mut self) -> Result<(), Refusal> {
+    fn items(&mut self, passed_set: &mut dyn FnMut(Range<usize>)) -> Result<(), Refusal> {
         loop {
             match self.due_kind()? {
                 kinds::ASSET => self.asset()?,
-                kinds::DERIVATIVE_SET => self.derivative_set()?,
-                kinds::FINANCING_SET => self.financing_set()?,
+                kinds::DERIVATIVE_SET => passed_set(self.derivative_set()?),
+                kinds::FINANCING_SET => passed_set(self.financing_set()?),
                 kinds::OFF_BALANCE => self.off_balance()?,
                 kinds::END => return self.end(),
                 _ => return Err(self.refuse(Cause::KindNotAllowed)),
@@ -134,8 +138,9 @@ impl<'a> Audit<'a> {
     }
 
     /// A set runs until a word that is none of its members; that word is
-    /// judged as an item by the caller.
-    fn derivative_set(&mut self) -> Result<(), Refusal> {
+    /// judged as an item by the caller. Returns the stretch that was passed.
+    fn derivative_set(&mut self) -> Result<Range<usize>, Refusal> {
+        let begin = self.next;
         let head: DerivativeHead = self.record()?;
         let mut tally = DerivativeTally::default();
         loop {
@@ -158,7 +163,7 @@ impl<'a> Audit<'a> {
             }
         }
         self.template.derivatives(&head, &tally.weigh(&head));
-        Ok(())
+        Ok(begin..self.next)
     }
 
     /// Reads the covers behind a written credit and returns their sum.
@@ -184,7 +189,8 @@ impl<'a> Audit<'a> {
         Ok(whole - open)
     }
 
-    fn financing_set(&mut self) -> Result<(), Refusal> {
+    fn financing_set(&mut self) -> Result<Range<usize>, Refusal> {
+        let begin = self.next;
         let head: FinancingHead = self.record()?;
         let mut tally = FinancingTally::default();
         let mut days_before = 0;
@@ -196,7 +202,7 @@ impl<'a> Audit<'a> {
             tally.trade(&trade);
         }
         self.template.financing(&head, &tally.weigh(&head));
-        Ok(())
+        Ok(begin..self.next)
     }
 
     fn off_balance(&mut self) -> Result<(), Refusal> {

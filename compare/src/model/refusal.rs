@@ -1,7 +1,8 @@
 //! Why and where a book is turned away.
 
 /// The causes in the order in which they are judged: that of the paper's table,
-/// with the date of request A.2 and the basket of A.3 where these put them.
+/// with the date of request A.2, the basket of A.3 and the set of A.1 where these
+/// put them.
 #[derive(Clone, Copy, PartialEq, Eq, Debug)]
 pub enum Cause {
     RowsTooShort = 1,
@@ -20,6 +21,8 @@ pub enum Cause {
     CoverTooLarge = 13,
     BasketFaulty = 17,
     EndFaulty = 14,
+    /// Of no filing: of the call that shows a set, behind all causes of the book.
+    NoSuchSet = 15,
 }
 
 impl Cause {
@@ -33,6 +36,14 @@ impl Cause {
             Ok(())
         } else {
             Err(self)
+        }
+    }
+
+    /// This cause where no record is to blame.
+    pub fn at_start(self) -> Refusal {
+        Refusal {
+            cause: self,
+            place: 0,
         }
     }
 }

@@ -7,6 +7,7 @@ mod corrections;
 mod covers;
 mod refusals;
 mod samples;
+mod sets;
 
 use super::{file, Answer, Entry, FIRST_RECORD, LAST_DATE, LONGEST_BOOK, NO_VERDICT, ROWS};
 use crate::samples::SAMPLE_DATE;

@@ -17,7 +17,7 @@ pub struct Form {
 pub struct List {
     pub name: &'static str,
     pub low: u32,
-    width: u32,
+    pub width: u32,
 }
 
 /// A payload field: a number, or one of the names counted from 0.

@@ -110,11 +110,11 @@ fn member_at(part: &[u32], at: usize, t: Tally, bands: Bands) -> MemberStep
         return MemberStep::End(t);
     }
     let k = kind(part[at]);
-    if k == kinds::TRADE {
-        return trade(part, at, t, bands);
-    }
     if k == kinds::WRITTEN_CREDIT {
         return written(part, at, t);
+    }
+    if k == kinds::TRADE {
+        return trade(part, at, t, bands);
     }
     MemberStep::End(t)
 }

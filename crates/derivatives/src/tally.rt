@@ -63,9 +63,9 @@ impl Tally {
         requires { ⌜ TallyRoomy self × (gross ≤ 2 ^ 62) ⌝ }
         ensures { λ r. ⌜ r ≡ plusBasket self value gross ⌝ }
     {
-        self.gains = self.gains + wide(gain(value));
         self.losses = self.losses + wide(loss(value));
         self.gross = self.gross + gross;
+        self.gains = self.gains + wide(gain(value));
         self
     }
 

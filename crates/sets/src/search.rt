@@ -14,6 +14,9 @@ ghost use Rattle.sets.specs.Search.{bitsFrom, passes, placeFrom, quiet};
 // The words that are looked at together: few enough for the nearest memory, so many that the machine takes several at once.
 const BLOCK: usize = 256;
 
+// The first words of a block, by which it is seen whether its bits are worth a look.
+const GLANCE: usize = 32;
+
 // The least word of a kind with bit 30 or 31, as those of sets are.
 const KINDS_FROM_4: u32 = 1 << 30;
 
@@ -63,14 +66,15 @@ fn count_in(book: &[u32], from: usize, to: usize, sought: Sought) -> u32
     count
 }
 
-// The same of a block. Where the block before had some the bits would hardly show that this one has none, so they are not asked.
-fn found_in(book: &[u32], at: usize, sought: Sought, before: u32) -> u32
+// The same of a block. Where its first words have bits as sets have them, which other records have too, the others are not asked for theirs.
+fn found_in(book: &[u32], at: usize, sought: Sought) -> u32
     requires { ⌜ at + 256 ≤ length (now book) ⌝ }
     ensures { λ r. ⌜ r ≡ length (scan (passes sought) (now (book .entry)) at 256) ⌝ }
 {
+    let near = at + GLANCE;
     let to = at + BLOCK;
-    if before == 0 {
-        if quiet_in(book, at, to, sought) {
+    if quiet_in(book, at, near, sought) {
+        if quiet_in(book, near, to, sought) {
             return 0;
         }
     }
@@ -78,7 +82,7 @@ fn found_in(book: &[u32], at: usize, sought: Sought, before: u32) -> u32
 }
 
 // Past all blocks that do not hold the word that is looked for.
-fn skip(book: &[u32], from: usize, ordinal: usize, sought: Sought) -> Stand
+fn past_blocks(book: &[u32], from: usize, ordinal: usize, sought: Sought) -> Stand
     ensures { λ r. ⌜ placeFrom (passes sought) (now (book .entry)) (r .at) (r .left) ≡ placeFrom (passes sought) (now (book .entry)) from ordinal ⌝ }
 {
     let mut at = from;
@@ -87,13 +91,12 @@ fn skip(book: &[u32], from: usize, ordinal: usize, sought: Sought) -> Stand
         return Stand { at, left };
     }
     let last = book.len() - BLOCK;
-    let mut found = 0;
     while at <= last {
-        found = found_in(book, at, sought, found);
-        if found as usize > left {
+        let found = found_in(book, at, sought) as usize;
+        if found > left {
             return Stand { at, left };
         }
-        left = left - found as usize;
+        left = left - found;
         at = at + BLOCK;
     }
     Stand { at, left }
@@ -110,7 +113,7 @@ fn behind(left: usize, found: bool) -> usize
 }
 
 // Where the word that is looked for stands, one by one.
-fn walk(book: &[u32], s: Stand, sought: Sought) -> usize
+fn one_by_one(book: &[u32], s: Stand, sought: Sought) -> usize
     ensures { λ r. ⌜ r ≡ placeFrom (passes sought) (now (book .entry)) (s .at) (s .left) ⌝ }
 {
     let mut at = s.at;
@@ -130,5 +133,6 @@ fn walk(book: &[u32], s: Stand, sought: Sought) -> usize
 pub fn search(book: &[u32], from: usize, ordinal: usize, sought: Sought) -> usize
     ensures { λ r. ⌜ r ≡ placeFrom (passes sought) (now (book .entry)) from ordinal ⌝ }
 {
-    walk(book, skip(book, from, ordinal, sought), sought)
+    let near = past_blocks(book, from, ordinal, sought);
+    one_by_one(book, near, sought)
 }

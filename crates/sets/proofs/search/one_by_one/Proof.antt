@@ -5,8 +5,8 @@ use lib.ListN.{length}
 use borrow.Author.Needs.{needs}
 use Rattle.sets.specs.Search.{passes, placeFrom}
 use Rattle.sets.proofs.SearchLaws.{place-over, place-next, place-found}
-use Rattle.sets.proofs.search.walk.Statement.{statement}
-use Rattle.sets.proofs.search.walk.Tie as tie
+use Rattle.sets.proofs.search.one_by_one.Statement.{statement}
+use Rattle.sets.proofs.search.one_by_one.Tie as tie
 
 abbrev Inv-loop : tie.InvT-loop
 Inv-loop book sought at₀ left₀ at left = placeFrom (passes sought) book at left ≡ placeFrom (passes sought) book at₀ left₀
@@ -38,8 +38,8 @@ returns-2 c =
     let l = c .before .loop in
     sym (place-over (passes (e .args .sought)) (e .args .book .now) (l .at) (l .left) (c .loop-test .left)) ∙ l .inv
 
-pub walk-spec : {M : Type 1} → statement M
-walk-spec =
+pub one-by-one-spec : {M : Type 1} → statement M
+one-by-one-spec =
     tie.close
     (tie.spec
     Inv-loop

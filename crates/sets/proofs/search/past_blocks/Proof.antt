@@ -5,14 +5,14 @@ use lib.ListN.{length}
 use borrow.Author.Needs.{needs}
 use Rattle.sets.specs.Search.{passes, placeFrom}
 use Rattle.sets.proofs.SearchLaws.{place-behind}
-use Rattle.sets.proofs.search.skip.Statement.{statement}
-use Rattle.sets.proofs.search.skip.Tie as tie
+use Rattle.sets.proofs.search.past_blocks.Statement.{statement}
+use Rattle.sets.proofs.search.past_blocks.Tie as tie
 
 abbrev Inv-loop : tie.InvT-loop
-Inv-loop book from ordinal sought at₀ left₀ last found₀ at left found = placeFrom (passes sought) book at left ≡ placeFrom (passes sought) book from ordinal
+Inv-loop book from ordinal sought at₀ left₀ last at left = placeFrom (passes sought) book at left ≡ placeFrom (passes sought) book from ordinal
 
 abbrev μ-loop : tie.MeasureT-loop
-μ-loop book from ordinal sought at₀ left₀ last found₀ at left found = length book - at
+μ-loop book from ordinal sought at₀ left₀ last at left = length book - at
 
 returns : tie.Need-returns Inv-loop μ-loop
 returns c = refl
@@ -25,9 +25,6 @@ found-in-requires c κs = let long = c .before .before .if1 .left in omega (arit
 
 returns-2 : tie.Need-returns-2 Inv-loop μ-loop
 returns-2 c = c .before .before .before .loop .inv
-
-add-at : tie.Need-add-at Inv-loop μ-loop
-add-at c = search needs
 
 loop-less : tie.Need-loop-less Inv-loop μ-loop
 loop-less c = let long = c .before .before .before .before .if1 .left in omega (arith, c .before .before .loop-test .taken)
@@ -42,8 +39,8 @@ loop-again c =
 returns-3 : tie.Need-returns-3 Inv-loop μ-loop
 returns-3 c = c .before .loop .inv
 
-pub skip-spec : {M : Type 1} → statement M
-skip-spec =
+pub past-blocks-spec : {M : Type 1} → statement M
+past-blocks-spec =
     tie.close
     (tie.spec
     Inv-loop
@@ -54,8 +51,7 @@ skip-spec =
     found-in-requires
     (search needs)
     returns-2
-    (search needs) (search needs)
-    add-at
+    (search needs)
     loop-less
     loop-again
     returns-3)
