@@ -14,7 +14,7 @@ use prog.Wp.{Heap, Env}
 use ghost.Atoms.{Atoms, sem}
 use contract.Monad.{Fun, fact}
 use contract.Lifetimes.{AllOutlive}
-use types.Kit.{Given, Item, mean, ‵, raw, some, later, _⊛_, Goal, Seq, _$_, _∵_, !, qed, move, keep, drop, use1, split, join, pick, await, fsplit, fjoin, updating, now as at-once, show, done}
+use types.Kit.{Given, Item, mean, ‵, raw, some, later, _⊛_, Goal, Seq, _$_, _∵_, !, qed, move, keep, drop, split, join, pick, await, fsplit, fjoin, updating, now as at-once, show, done}
 use types.Run.{Opds}
 use denote.Laws.{Is, shows}
 use denote.Plain.{uint-makes}

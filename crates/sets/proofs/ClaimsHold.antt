@@ -1,8 +1,8 @@
 -- The claims about sets that are shown: beside a filing, and beside each other. Assumes nothing.
 use Prim.Native.Nat.{ℕ, zero, suc, _≤_, _<_}
-use mathlib.Core.Path.{_≡_, refl, sym, _∙_, ap}
+use mathlib.Core.Path.{_≡_, refl, _∙_}
 use mathlib.Core.Bool.{Bool, true, false, cond}
-use mathlib.Core.List.{List, [], _∷_, _++_}
+use mathlib.Core.List.{List, [], _∷_}
 use mathlib.Core.Option.{Option, none, some}
 use native.Mathlib.Omega.{arith}
 use borrow.Author.Tests.{le-ltb}
@@ -15,10 +15,8 @@ use Rattle.rules.specs.Filing.{Outcome, early, refused, accepted, admission, ou
 use Rattle.laws.proofs.Accepted.{accepted-is, Numbered, numbered}
 use Rattle.cuts.proofs.Chains.{Chain}
 use Rattle.cuts.proofs.Cutting.{ItemHere, here-kind, here-places, here-onward, item-stands, book-cut}
-use Rattle.cuts.proofs.ByKind as by-kind
-use Rattle.sets.specs.declared.Shown.{Shown}
-use Rattle.sets.specs.Sets.{isSet, setsOf, turnedAway, shownSet, shownIn, showing}
-use Rattle.sets.specs.Claims.{LikeFiling, AsFiled, Stretches, SetsStretch, SetsApart}
+use Rattle.sets.specs.Sets.{isSet, setsOf, shownSet, showing}
+use Rattle.sets.specs.Claims.{LikeFiling, AsFiled, SetsStretch, SetsApart}
 use Rattle.sets.proofs.SetLaws.{set-kind, nth-among}
 
 -- a book with some register, as far as it comes; no refusal has the number 0

@@ -2,14 +2,14 @@
 use Prim.Native.Nat.{ℕ, zero, suc, _+_, _-_, _≤_, _<_, _^_}
 use mathlib.Core.Path.{_≡_, refl, sym, _∙_, ap}
 use mathlib.Core.Bool.{Bool, true, false, cond, _&&_}
-use mathlib.Core.List.{List, [], _∷_, _++_}
+use mathlib.Core.List.{List, [], _++_}
 use native.Mathlib.Omega.{arith}
 use native.Mathlib.Numerals.{add-one}
-use native.Mathlib.Nat.{zero-add, add-zero, suc-add, add-suc}
+use native.Mathlib.Nat.{add-zero, suc-add, add-suc}
 use borrow.Author.Tests.{ne-eqb, eqb-true, ltb-true}
 use lib.Bits.{bitOr, or-add-and, and-le-r, or-comm}
 use lib.Dec.{eqb}
-use lib.ListN.{length, getD, length-append}
+use lib.ListN.{length, getD}
 use lib.Seq.{getD-append-add}
 use Rattle.rules.specs.Word.{word, kindOf}
 use Rattle.rules.specs.Read.{headOf}
@@ -23,7 +23,7 @@ use Rattle.sets.specs.Search.{placeFrom, bitsFrom, passes, quiet}
 
 module _ (test : ℕ → Bool) (ws : List ℕ) where
   -- a word that passes is found, another is not
-  pub scan-word : (at to : ℕ) → at < to → scan test ws at (to - at) ≡ marked (test (kindOf (word ws at))) at ++ scan test ws (at + 1) (to - (at + 1))
+  scan-word : (at to : ℕ) → at < to → scan test ws at (to - at) ≡ marked (test (kindOf (word ws at))) at ++ scan test ws (at + 1) (to - (at + 1))
   unfolding scan
   scan-word at to l =
       let s : to - at ≡ suc (to - suc at) = omega arith in
@@ -50,7 +50,7 @@ module _ (test : ℕ → Bool) (ws : List ℕ) where
       go false h = omega arith
 
   -- they are counted one by one
-  pub count-word : (at to : ℕ) → at < to → length (scan test ws at (to - at)) ≡ cond (test (kindOf (word ws at))) 1 0 + length (scan test ws (at + 1) (to - (at + 1)))
+  count-word : (at to : ℕ) → at < to → length (scan test ws at (to - at)) ≡ cond (test (kindOf (word ws at))) 1 0 + length (scan test ws (at + 1) (to - (at + 1)))
   count-word at to l = ap length (scan-word at to l) ∙ go (test (kindOf (word ws at)))
     where
       go : (b : Bool) → length (marked b at ++ scan test ws (at + 1) (to - (at + 1))) ≡ cond b 1 0 + length (scan test ws (at + 1) (to - (at + 1)))
@@ -74,12 +74,12 @@ module _ (test : ℕ → Bool) (ws : List ℕ) where
   place-here at l e = rw (scan-word test ws at (length ws) l, e)
 
   -- or one to be left behind
-  pub place-passed : (at n : ℕ) → at < length ws → test (kindOf (word ws at)) ≡ true → placeFrom test ws at (suc n) ≡ placeFrom test ws (at + 1) n
+  place-passed : (at n : ℕ) → at < length ws → test (kindOf (word ws at)) ≡ true → placeFrom test ws at (suc n) ≡ placeFrom test ws (at + 1) n
   unfolding placeFrom
   place-passed at n l e = rw (scan-word test ws at (length ws) l, e)
 
   -- it does not pass
-  pub place-other : (at n : ℕ) → at < length ws → test (kindOf (word ws at)) ≡ false → placeFrom test ws at n ≡ placeFrom test ws (at + 1) n
+  place-other : (at n : ℕ) → at < length ws → test (kindOf (word ws at)) ≡ false → placeFrom test ws at n ≡ placeFrom test ws (at + 1) n
   unfolding placeFrom
   place-other at n l e = rw (scan-word test ws at (length ws) l, e)
 
@@ -156,13 +156,13 @@ module _ (ws : List ℕ) where
   bits-cover (suc n) (suc k) bits at l = rw (add-suc at k, ← suc-add at k) (bits-cover n k (bitOr bits (word ws at)) (suc at) (omega arith))
 
   -- SO WHERE THEY HAVE NEITHER BIT 30 NOR BIT 31 none of the words is a set's
-  pub quiet-scan : (at n : ℕ) → bitsFrom 0 ws at n < 2 ^ 30 → scan isSet ws at n ≡ []
+  quiet-scan : (at n : ℕ) → bitsFrom 0 ws at n < 2 ^ 30 → scan isSet ws at n ≡ []
   quiet-scan at n l = scan-silent isSet ws n at (λ i h m. let s : at + (i - at) ≡ i = omega arith in low (word ws i) (omega (arith, rw s at (bits-cover n (i - at) 0 at (omega arith)))))
     where
       low : (w : ℕ) → w < 2 ^ 30 → isSet (kindOf w) ≡ false
       low w l = let k : kindOf w < 4 = omega arith in rw (ne-eqb (kindOf w) 4 (λ e. omega arith), ne-eqb (kindOf w) 8 (λ e. omega arith))
 
-  pub quiet-found : (sought : Sought) (at n : ℕ) → quiet sought (bitsFrom 0 ws at n) ≡ true → scan (passes sought) ws at n ≡ []
+  quiet-found : (sought : Sought) (at n : ℕ) → quiet sought (bitsFrom 0 ws at n) ≡ true → scan (passes sought) ws at n ≡ []
   quiet-found Set at n e = quiet-scan at n (ltb-true (bitsFrom 0 ws at n) (2 ^ 30) e)
   quiet-found EndOfDerivatives at n e = let z : _≡_ {A = ℕ} 0 1 = cc in absurd (omega arith)
   quiet-found EndOfFinancing at n e = let z : _≡_ {A = ℕ} 0 1 = cc in absurd (omega arith)

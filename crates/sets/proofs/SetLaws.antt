@@ -1,13 +1,12 @@
 -- A search by kinds finds what request A.1 speaks of: in an accepted book it begins at the set of the ordinal and ends where that set ends.
 -- Assumes nothing.
-use Prim.Native.Nat.{ℕ, zero, suc, _+_, _-_, _≤_, _<_}
+use Prim.Native.Nat.{ℕ, zero, suc, _+_, _-_, _<_}
 use mathlib.Core.Path.{_≡_, refl, sym, _∙_, ap}
 use mathlib.Core.Logic.{_⊎_, inl, inr}
 use mathlib.Core.Bool.{Bool, true, false, cond, _||_, not}
 use mathlib.Core.List.{List, [], _∷_, _++_}
 use mathlib.Core.Option.{Option, none, some}
 use native.Mathlib.Omega.{arith}
-use native.Mathlib.Numerals.{add-one}
 use borrow.Author.Tests.{lt-ltb, le-ltb, eqb-true}
 use lib.Dec.{eqb}
 use lib.ListN.{length, getD, getElem?}
@@ -22,13 +21,11 @@ use Rattle.laws.proofs.Accepted.{accepted-is}
 use Rattle.reading.specs.declared.Admission.{Admission}
 use Rattle.filing.specs.Answers.{admissionOf}
 use Rattle.cuts.proofs.Cutting.{kindOfItem, itemsBegin, here-kind, here-onward, item-stands, StandsIn, book-cut}
-use Rattle.cuts.proofs.Scan.{scan}
 use Rattle.cuts.proofs.ByKind.{begins, picked, opens, sets-by-kind}
 use Rattle.cuts.proofs.ByKind as by-kind
 use Rattle.cuts.proofs.EachWord.{item-next, inside-closed, inside-own}
 use Rattle.sets.specs.declared.Shown.{Shown}
-use Rattle.sets.specs.declared.sought.Sought.the-variants.{EndOfDerivatives, EndOfFinancing}
-use Rattle.sets.specs.Sets.{isSet, setsOf, turnedAway, shownSet, shownIn, showing, VeryStretch}
+use Rattle.sets.specs.Sets.{isSet, setsOf, shownSet, shownIn, showing, VeryStretch}
 use Rattle.sets.specs.Search.{leavesFinancing, passes, endOf, placeFrom, foundAt, foundIn}
 use Rattle.sets.proofs.SearchLaws.{scan-silent, place-here, place-behind}
 use Rattle.sets.proofs.FoundLaws.{very-same}

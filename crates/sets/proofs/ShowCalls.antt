@@ -16,7 +16,6 @@ use ghost.Atoms.{Atoms, sem}
 use contract.Monad.{Fun, fact}
 use types.Kit.{Given, Item, mean, ‵, raw, some, later, _⊛_, Goal, Seq, _$_, _∵_, !, qed, move, keep, drop, use1, split, join, pick, await, fsplit, fjoin, updating, now as at-once, show, done}
 use types.Run.{Opds}
-use denote.RattleType.{RattleType}
 use denote.Laws.{Is, shows}
 use denote.Plain.{uint-makes}
 use denote.Builtin.{u32, usize}

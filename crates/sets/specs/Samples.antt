@@ -2,8 +2,7 @@
 use Prim.Native.Nat.{ℕ, _+_, _^_}
 use mathlib.Core.Path.{_≡_}
 use mathlib.Core.List.{List, [], _∷_, _++_, map}
-use lib.ListN.{length}
-use Rattle.cuts.proofs.Written.{joined, bookOf}
+use Rattle.cuts.proofs.Written.{bookOf}
 use Rattle.cuts.proofs.SampleBooks.{headWord, sampleFront, anAsset, emptySet, aSet, aCredit, aCover, emptyFinancing, aFinancingTrade, aCommitment, bookWith}
 use Rattle.sets.specs.declared.Shown.{Shown}
 use Rattle.sets.specs.Sets.{turnedAway, showing}

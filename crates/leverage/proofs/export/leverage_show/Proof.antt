@@ -10,15 +10,15 @@ use mir.Syntax.{Ty, Local, local, valueLocal, named, erased, imm, mut, w64, tyRe
 use lib.Dec.{T as Holds}
 use mir.Val.{Val, vint, vptr, WT, hasTy}
 use base.Logic.{SProp, ent, emp, via, fst∗}
-use base.Fml.{Lft, Share, GName, Fml, ftrue, fsep, fat, froom, fdies, flft, fres}
+use base.Fml.{Lft, Share, GName, ftrue, fat, froom, fdies, flft}
 use prog.Memory.{Memory}
 use prog.Routine.{Routine}
 use prog.Wp.{Heap, Env, Calls, Loops, WpFn, Tables}
-use ghost.Atoms.{Atoms, sem}
+use ghost.Atoms.{Atoms}
 use contract.Monad.{Fun}
 use contract.Running.{givenOf, tables, tablesOf}
 use contract.Lifetimes.{AllOutlive}
-use types.Kit.{Given, Item, Sq, rewrite, atRet, runs, ‵, _⊛_, ⋆, _$_, _∵_, !, qed, by, move, keep, split, join, fsplit, fjoin, suffices, frame, done}
+use types.Kit.{Given, Item, Sq, atRet, runs, ‵, _⊛_, ⋆, _$_, _∵_, !, qed, by, move, keep, split, join, fsplit, fjoin, suffices, frame, done}
 use types.Run.{look, init, forget, stop, hop, fld, from, load, addr, and-then, no-more, assigns, land, returns, alloc1, alloc0, params1, pass1, pass0, free1, free0}
 use types.Part.{agg, whole, sub, look-in}
 use sound.WpLaws.{FmC, fmOf, WpFn-mono}
