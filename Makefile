@@ -3,9 +3,9 @@
 # make samples: write the books of leverage_samples and the lines expected of it, from the seed.
 # make model:   check the implementation in compare/ by itself, and that those files are the ones it writes.
 # make printing: hold the printing program to that implementation, on the books in compare/books and on bad input.
-# make compare: file a million generated books through the static library and through that implementation.
+# make compare: file a million generated books, and show their sets, through the static library and through that implementation.
 # make example: build and run include/example.c and the two callers in README.md.
-# make bench:   time the library and Rust on the same books, and the weighted add-on in three ways.
+# make bench:   time the library and Rust on the same books, a set that is shown beside a filing, and the weighted add-on in three ways.
 BOOK = compare/books/sample.txt
 BOOKS = 1000000
 SEED = 1

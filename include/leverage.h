@@ -109,7 +109,8 @@ struct leverage_stretch {
  * Shown (number 0): the stretch is that very part of the book, which neither is copied nor moves; it is good as long as the book is.
  * Refused: number and place of the book's own refusal, or 15 at place 0 where the book is accepted and has no such set. The stretch is empty
  * and stands at the book's first word.
- * In every case the register is left as leverage_file leaves it for that book, at 15 as for an accepted book; no rows are lent.
+ * In every case the register is left as leverage_file leaves it for that book with 22 rows or more, at 15 as for an accepted book; no rows are
+ * lent.
  *
  * Book and register are as for leverage_file. The stretch leads to a struct of its own, apart from both, that holds any good pointer and count
  * before the call: {book, 0} will do.

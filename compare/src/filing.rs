@@ -103,8 +103,11 @@ pub type Filing = fn(&[u32], &mut [i64], &mut [Entry]) -> Answer;
 /// The call that shows a set, by its ordinal.
 pub type Showing = for<'a> fn(&'a [u32], usize, &mut [Entry]) -> Shown<'a>;
 
+/// The number of an accepted book that has no set of the ordinal asked for.
+pub const NO_SUCH_SET: u32 = 15;
+
 /// The numbers that a filing answers, in the order in which they are judged.
-/// 15 is of no filing.
+/// `NO_SUCH_SET` is of no filing.
 pub const NUMBERS: [u32; 17] = [0, 1, 2, 3, 16, 4, 5, 6, 7, 8, 9, 10, 11, 12, 13, 17, 14];
 
 /// How often each answer came: by number, and by verdict where accepted.

@@ -3,7 +3,7 @@
 
 use std::slice;
 
-use crate::model::{Answer, Entry, Shown};
+use crate::model::{Answer, Entry, Shown, NO_VERDICT};
 
 extern "C" {
     fn leverage_file(
@@ -56,7 +56,7 @@ pub fn file(book: &[u32], rows: &mut [i64], register: &mut [Entry]) -> Answer {
 /// the library leaves it so.
 static UNWRITTEN: [u32; 1] = [0];
 
-/// The verdict in the answer is always the same and is not looked at.
+/// In the place of the verdict the answer always says that there is none.
 pub fn show<'a>(book: &'a [u32], ordinal: usize, register: &mut [Entry]) -> Shown<'a> {
     let mut stretch = Stretch {
         words: UNWRITTEN.as_ptr(),
@@ -76,6 +76,7 @@ pub fn show<'a>(book: &'a [u32], ordinal: usize, register: &mut [Entry]) -> Show
         );
         (packed, slice::from_raw_parts(stretch.words, stretch.count))
     };
+    assert_eq!(packed >> 8 & 0xFF, u64::from(NO_VERDICT));
     Shown {
         number: (packed & 0xFF) as u32,
         place: (packed >> 16) as usize,

@@ -9,27 +9,30 @@ use super::items::{
     netted_set, off_balance, Item, BOOKS,
 };
 use super::{time, Timing, REPETITIONS};
+use crate::filing::NO_SUCH_SET;
 use crate::generate::{sets_in, word, Random};
 use crate::library;
 use crate::model::{kinds, Entry, LONGEST_BOOK, ROWS};
 
 /// Further books of one sort of items, as those of the other table are.
-const FURTHER: [(&str, Item, Option<usize>); 3] = [
+const FURTHER: [(&str, Item, Option<usize>); 6] = [
     ("mixed", mixed, Some(256)),
+    ("assets, a commitment in 256 words", rare_commitment, None),
+    ("assets, a commitment in 64 words", frequent_commitment, None),
+    ("assets, a netted set in 256 words", rare_set, None),
     ("empty derivative sets", empty_derivative_set, None),
     ("empty financing sets", empty_financing_set, None),
 ];
 
 /// Books that begin with a set and go on with its members or with assets.
-const ONE_SET: [(&str, Item, Item); 3] = [
+const ONE_SET: [(&str, Item, Item); 4] = [
     ("one derivative set", empty_derivative_set, any_trade),
+    ("one derivative set, equal trades", empty_derivative_set, equal_trade),
     ("one financing set", empty_financing_set, |words, random| {
         financing_trade(words, random, 2)
     }),
     ("one set, then assets", netted_set, asset),
 ];
-
-const NO_SUCH_SET: u32 = 15;
 
 const NOTES: &str = "\
 Showing a set beside filing the same book, of 1,048,576 words or a few less: the
@@ -111,6 +114,33 @@ fn mixed(words: &mut Vec<u32>, random: &mut Random) {
     ] {
         item(words, random);
     }
+}
+
+/// Assets, so that about this many words are filled, and another item: a block of
+/// words that has neither assets alone nor many sets.
+fn among_assets(words: &mut Vec<u32>, random: &mut Random, filled: usize, other: Item) {
+    let end = words.len() + filled;
+    other(words, random);
+    while words.len() + 4 <= end {
+        asset(words, random);
+    }
+}
+
+fn rare_commitment(words: &mut Vec<u32>, random: &mut Random) {
+    among_assets(words, random, 256, off_balance);
+}
+
+fn frequent_commitment(words: &mut Vec<u32>, random: &mut Random) {
+    among_assets(words, random, 64, off_balance);
+}
+
+fn rare_set(words: &mut Vec<u32>, random: &mut Random) {
+    among_assets(words, random, 256, netted_set);
+}
+
+/// Trades without a choice that a processor could guess wrong.
+fn equal_trade(words: &mut Vec<u32>, _random: &mut Random) {
+    words.extend([word(kinds::TRADE, 1 | 1 << 3), 30, 1_000, 365, 365]);
 }
 
 fn empty_derivative_set(words: &mut Vec<u32>, random: &mut Random) {

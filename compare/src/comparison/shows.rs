@@ -6,7 +6,7 @@ mod ordinals;
 mod tests;
 
 use super::Peer;
-use crate::filing::{hexadecimal, same_entries, Lengths};
+use crate::filing::{hexadecimal, same_entries, Lengths, NO_SUCH_SET};
 use crate::generate::{around_a_set, Random};
 use crate::laws;
 use crate::model::{self, Answer, Entry, Shown, ROWS};
@@ -132,7 +132,7 @@ impl Shows {
         let theirs = (self.peer.show)(book, ordinal, &mut their_side[..lent]);
         match ours.number {
             0 => self.sets += 1,
-            15 => self.no_sets += 1,
+            NO_SUCH_SET => self.no_sets += 1,
             _ => self.refused += 1,
         }
         let failed = if ours != theirs {

@@ -2,9 +2,8 @@
 //! of kind 0, so that its other words are those that begin a record.
 
 use super::file;
+use crate::filing::NO_SUCH_SET;
 use crate::model::{Entry, Shown, ROWS};
-
-const NO_SUCH_SET: u32 = 15;
 
 pub fn show<'a>(book: &'a [u32], ordinal: usize, register: &mut [Entry]) -> Shown<'a> {
     let answer = file(book, &mut [0; ROWS], register);

@@ -8,12 +8,11 @@ mod tests;
 use std::ptr;
 
 use super::ensure;
-use crate::filing::same_entries;
+use crate::filing::{same_entries, NO_SUCH_SET};
 use crate::generate::sets_in;
 use crate::model::{kinds, Answer, Entry, Shown, FIRST_RECORD};
 
 const ACCEPTED: u32 = 0;
-const NO_SUCH_SET: u32 = 15;
 
 /// The words of a protection.
 const PROTECTION: usize = 4;

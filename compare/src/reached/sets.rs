@@ -1,7 +1,7 @@
 //! Sets that were shown, and how that was refused.
 
 use super::{Feature, Reached};
-use crate::filing::NUMBERS;
+use crate::filing::{NO_SUCH_SET, NUMBERS};
 use crate::model::{kinds, Entry, Shown, FIRST_RECORD, LONGEST_BOOK};
 
 const EMPTY: &str = "empty set shown: kind, words";
@@ -100,7 +100,7 @@ impl Reached {
     pub fn sets(&mut self, book: &[u32], register: &[Entry], answers: &[(usize, Shown)]) {
         let protections = protections(book);
         let further = register.len() > protections;
-        let no_set = answers.iter().find(|(_, shown)| shown.number == 15);
+        let no_set = answers.iter().find(|(_, shown)| shown.number == NO_SUCH_SET);
         let of = no_set.map_or(0, |(ordinal, _)| *ordinal);
         for (index, &(ordinal, shown)) in answers.iter().enumerate() {
             match shown.number {
@@ -118,7 +118,7 @@ impl Reached {
                     self.words_of_set(&set, &answers[..index]);
                     self.pattern(further, "entries behind the protections stay, set shown");
                 }
-                15 => {
+                NO_SUCH_SET => {
                     self.no_such_set(ordinal, of);
                     self.pattern(protections > 0, "15 with protections in the register");
                     self.pattern(further, "entries behind the protections stay, 15");

@@ -12,7 +12,7 @@ pub fn lines(book: &[u32], ordinal: usize, shown: &Shown) -> String {
     if number != 0 {
         return format!("refused {number} at {place}\n");
     }
-    let begin = shown.begin(book).unwrap_or_default();
+    let begin = shown.begin(book).expect("a stretch of this book");
     let count = match shown.stretch.len() {
         1 => "1 word".to_string(),
         words => format!("{words} words"),

@@ -58,7 +58,7 @@ impl Tally {
         self
     }
 
-    // A basket joins V, G and A "like a trade".
+    // A basket joins V, G and A "like a trade". The gain comes last, which is the fastest order (docs/BENCHMARKS.md, A.1).
     pub fn add_basket(mut self, value: u32, gross: u64) -> Tally
         requires { ⌜ TallyRoomy self × (gross ≤ 2 ^ 62) ⌝ }
         ensures { λ r. ⌜ r ≡ plusBasket self value gross ⌝ }

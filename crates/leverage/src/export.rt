@@ -6,7 +6,7 @@ use filing::file::file;
 use rules::Entry;
 ghost use mathlib.Core.Path.{_≡_};
 ghost use lib.ListN.{length};
-ghost use denote.Ref.{now, ptr};
+ghost use denote.Ref.{now};
 ghost use Rattle.rules.specs.Read.{headOf};
 ghost use Rattle.rules.specs.Filing.{admission, filing, registerAfter};
 ghost use Rattle.sets.specs.Sets.{VeryStretch, showing};

@@ -173,14 +173,14 @@ pub few-protections : (ws : List ℕ) → headOf ws .protections < 2 ^ 28
 unfolding headOf
 few-protections ws = omega arith
 
--- ---- a block of 256 words, of which 32 are looked at first
+-- ---- a block of 64 words, of which 32 are looked at first
 
 module _ (ws : List ℕ) (sought : Sought) (at : ℕ) where
-  pub block-count : length (scan (passes sought) ws at (at + 256 - at)) ≡ length (scan (passes sought) ws at 256)
-  block-count = let n : at + 256 - at ≡ 256 = omega arith in rw n
+  pub block-count : length (scan (passes sought) ws at (at + 64 - at)) ≡ length (scan (passes sought) ws at 64)
+  block-count = let n : at + 64 - at ≡ 64 = omega arith in rw n
 
-  pub quiet-block : quiet sought (bitsFrom 0 ws at (at + 32 - at)) ≡ true → quiet sought (bitsFrom 0 ws (at + 32) (at + 256 - (at + 32))) ≡ true → 0 ≡ length (scan (passes sought) ws at 256)
+  pub quiet-block : quiet sought (bitsFrom 0 ws at (at + 32 - at)) ≡ true → quiet sought (bitsFrom 0 ws (at + 32) (at + 64 - (at + 32))) ≡ true → 0 ≡ length (scan (passes sought) ws at 64)
   quiet-block e f =
       let n : at + 32 - at ≡ 32 = omega arith in
-      let m : at + 256 - (at + 32) ≡ 224 = omega arith in
-      rw (scan-add (passes sought) ws 32 224 at, quiet-found ws sought at 32 (rw n at e), quiet-found ws sought (at + 32) 224 (rw m at f))
+      let m : at + 64 - (at + 32) ≡ 32 = omega arith in
+      rw (scan-add (passes sought) ws 32 32 at, quiet-found ws sought at 32 (rw n at e), quiet-found ws sought (at + 32) 32 (rw m at f))

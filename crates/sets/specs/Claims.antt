@@ -44,4 +44,6 @@ SetsStretch = (ws : List ℕ) (ordinal entries : ℕ) → showing ws ordinal ent
 
 -- the stretch of a later ordinal begins where that of an earlier one has ended, or behind it; so sets of equal words are two stretches
 abbrev pub SetsApart : Type 0
-SetsApart = (ws : List ℕ) (earlier later entries : ℕ) → earlier < later → showing ws later entries .number ≡ 0 → showing ws earlier entries .end ≤ showing ws later entries .begin
+SetsApart =
+    (ws : List ℕ) (earlier later entries : ℕ) → earlier < later → showing ws later entries .number ≡ 0
+    → showing ws earlier entries .end ≤ showing ws later entries .begin

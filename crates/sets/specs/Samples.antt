@@ -1,5 +1,5 @@
 -- Request A.1: a book with sets of each kind, empty and with members, two of them equal word for word, and what is shown of it. Assumes nothing.
-use Prim.Native.Nat.{ℕ, _+_, _^_}
+use Prim.Native.Nat.{ℕ, _+_, _-_, _^_}
 use mathlib.Core.Path.{_≡_}
 use mathlib.Core.List.{List, [], _∷_, _++_, map}
 use Rattle.cuts.proofs.Written.{bookOf}
@@ -49,7 +49,8 @@ cases =
     ∷ case book 5 1 (stretch 52 56)
     -- "An ordinal with no set is refused 15 ... with place 0"
     ∷ case book 6 1 (turnedAway 15 0)
-    ∷ case book (2 ^ 64 + 5) 1 (turnedAway 15 0)
+    ∷ case book (2 ^ 32 + 5) 1 (turnedAway 15 0)
+    ∷ case book (2 ^ 64 - 1) 1 (turnedAway 15 0)
     ∷ case (bookWith (anAsset 7 ∷ aCommitment ∷ [])) 0 1 (turnedAway 15 0)
     -- "A refused book gives its own number and place", with a set and without one: 14, 13, 4 for a register of none, 3
     ∷ case miscounted 0 1 (turnedAway 14 56)

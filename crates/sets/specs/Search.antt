@@ -10,7 +10,8 @@ use Rattle.reading.specs.declared.Admission.{Admission}
 use Rattle.reading.specs.declared.Admission.the-variants.{Admitted, Refused}
 use Rattle.cuts.proofs.Cutting.{itemsBegin}
 use Rattle.cuts.proofs.Scan.{scan}
-use Rattle.cuts.proofs.ByKind.{opens, isSet}
+use Rattle.cuts.proofs.ByKind.{opens}
+use Rattle.cuts.proofs.ByKind as by-kind
 use Rattle.sets.specs.declared.Shown.{Shown}
 use Rattle.sets.specs.declared.sought.Sought.{Sought}
 use Rattle.sets.specs.declared.sought.Sought.the-variants.{Set, EndOfDerivatives, EndOfFinancing}
@@ -24,7 +25,7 @@ leavesFinancing kind = not (eqb kind 0 || eqb kind 9)
 
 -- the kinds of words that are sought
 abbrev pub passes : Sought → ℕ → Bool
-passes Set kind = isSet kind
+passes Set kind = by-kind.isSet kind
 passes EndOfDerivatives kind = opens kind
 passes EndOfFinancing kind = leavesFinancing kind
 
@@ -34,11 +35,11 @@ endOf kind = cond (eqb kind 8) EndOfFinancing EndOfDerivatives
 
 -- ---- a search
 
--- from a place on, the place of the word behind so many others that passes a test; the book's length where there is none
+-- from a place on, where the word stands that has this ordinal, from 0, among those whose kind passes a test; the book's length where there is none
 unfoldable pub placeFrom : (ℕ → Bool) → List ℕ → (from ordinal : ℕ) → ℕ
 placeFrom test ws from ordinal = getD (scan test ws from (length ws - from)) ordinal (length ws)
 
--- the bits of so many words, on top of some
+-- the bits that any of n words from a place on has, and those given
 unfoldable pub bitsFrom : ℕ → List ℕ → (at n : ℕ) → ℕ
 bitsFrom bits ws at zero = bits
 bitsFrom bits ws at (suc n) = bitsFrom (bitOr bits (word ws at)) ws (suc at) n
@@ -60,7 +61,7 @@ foundAt ws begin =
 -- in a book that was admitted or refused
 abbrev pub foundIn : List ℕ → ℕ → Admission → Shown
 foundIn ws ordinal (Refused number place) = turnedAway number place
-foundIn ws ordinal (Admitted sums) = foundAt ws (placeFrom isSet ws (itemsBegin ws) ordinal)
+foundIn ws ordinal (Admitted sums) = foundAt ws (placeFrom by-kind.isSet ws (itemsBegin ws) ordinal)
 
 -- it lies in the book
 abbrev pub Within : List ℕ → Shown → Type 0

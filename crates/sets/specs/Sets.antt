@@ -41,7 +41,7 @@ shownIn (accepted items left) ordinal = shownSet (getElem? (setsOf items) ordina
 unfoldable pub showing : List ℕ → (ordinal entries : ℕ) → Shown
 showing ws ordinal entries = shownIn (admission ws entries) ordinal
 
--- the words of the book from one place to another
+-- the words of the book from the first place on, up to the second and without it
 abbrev pub stretchOf : List ℕ → Shown → List ℕ
 stretchOf ws s = take (s .end - s .begin) (drop (s .begin) ws)
 

@@ -1,9 +1,9 @@
-// What is answered of a book that came so far.
+// What is answered of a book that was admitted or refused.
 use crate::bounds::bounds;
 use crate::bounds::part;
 use reading::Admission;
 ghost use mathlib.Core.Path.{_≡_};
-ghost use denote.Ref.{now, ptr};
+ghost use denote.Ref.{now};
 ghost use Rattle.sets.specs.Sets.{VeryStretch};
 ghost use Rattle.sets.specs.Search.{foundIn};
 

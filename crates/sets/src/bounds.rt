@@ -9,9 +9,9 @@ use rules::causes;
 use rules::lengths;
 use rules::limits;
 ghost use mathlib.Core.Path.{_≡_};
-ghost use denote.Ref.{now, ptr};
+ghost use denote.Ref.{now};
 ghost use Rattle.cuts.proofs.Cutting.{itemsBegin};
-ghost use Rattle.cuts.proofs.ByKind.{isSet};
+ghost use Rattle.cuts.proofs.ByKind as byKind;
 ghost use Rattle.sets.specs.Sets.{VeryStretch, turnedAway};
 ghost use Rattle.sets.specs.Search.{foundAt, foundIn, placeFrom, Within};
 
@@ -39,7 +39,8 @@ fn items_begin(book: &[u32]) -> usize
 
 // The set of an ordinal from 0, if there is one.
 fn find_set(book: &[u32], ordinal: usize) -> Shown
-    ensures { λ r. ⌜ (r ≡ foundAt (now (book .entry)) (placeFrom isSet (now (book .entry)) (itemsBegin (now (book .entry))) ordinal)) × Within (now (book .entry)) r ⌝ }
+    ensures { λ r. ⌜ (r ≡ foundAt (now (book .entry)) (placeFrom byKind.isSet (now (book .entry)) (itemsBegin (now (book .entry))) ordinal))
+        × Within (now (book .entry)) r ⌝ }
 {
     let begin = search(book, items_begin(book), ordinal, Sought::Set);
     if begin < book.len() {

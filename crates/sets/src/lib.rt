@@ -5,7 +5,7 @@ mod search;
 pub mod show;
 mod sought;
 
-// The number and the place that are answered, and from which place of the book to which the stretch goes.
+// The number and the place that are answered, and the stretch: the place in the book of its first word, and the place after its last.
 pub struct Shown {
     pub number: u32,
     pub place: usize,

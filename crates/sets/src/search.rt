@@ -11,10 +11,10 @@ ghost use denote.Ref.{now};
 ghost use Rattle.cuts.proofs.Scan.{scan};
 ghost use Rattle.sets.specs.Search.{bitsFrom, passes, placeFrom, quiet};
 
-// The words that are looked at together: few enough for the nearest memory, so many that the machine takes several at once.
-const BLOCK: usize = 256;
+// The words that are counted together, of which the machine takes several at once.
+const BLOCK: usize = 64;
 
-// The first words of a block, by which it is seen whether its bits are worth a look.
+// The first words of a block, by which it is seen whether the bits of the others are worth a look.
 const GLANCE: usize = 32;
 
 // The least word of a kind with bit 30 or 31, as those of sets are.
@@ -54,7 +54,7 @@ fn quiet_in(book: &[u32], from: usize, to: usize, sought: Sought) -> bool
 
 // How many of these words are sought.
 fn count_in(book: &[u32], from: usize, to: usize, sought: Sought) -> u32
-    requires { ⌜ (to ≤ length (now book)) × (to - from ≤ 256) ⌝ }
+    requires { ⌜ (to ≤ length (now book)) × (to - from ≤ 64) ⌝ }
     ensures { λ r. ⌜ r ≡ length (scan (passes sought) (now (book .entry)) from (to - from)) ⌝ }
 {
     let mut count = 0;
@@ -66,10 +66,11 @@ fn count_in(book: &[u32], from: usize, to: usize, sought: Sought) -> u32
     count
 }
 
-// The same of a block. Where its first words have bits as sets have them, which other records have too, the others are not asked for theirs.
+// The same of a whole block. Where one of its first words has bit 30 or 31 it is counted at once: to ask the others for their bits would
+// save nothing.
 fn found_in(book: &[u32], at: usize, sought: Sought) -> u32
-    requires { ⌜ at + 256 ≤ length (now book) ⌝ }
-    ensures { λ r. ⌜ r ≡ length (scan (passes sought) (now (book .entry)) at 256) ⌝ }
+    requires { ⌜ at + 64 ≤ length (now book) ⌝ }
+    ensures { λ r. ⌜ r ≡ length (scan (passes sought) (now (book .entry)) at 64) ⌝ }
 {
     let near = at + GLANCE;
     let to = at + BLOCK;
@@ -129,7 +130,7 @@ fn one_by_one(book: &[u32], s: Stand, sought: Sought) -> usize
     book.len()
 }
 
-// From a place on, the place of the word behind so many others that is sought; the book's length where there is none.
+// From a place on, where the word stands that has this ordinal, from 0, among those that are sought; the book's length where there is none.
 pub fn search(book: &[u32], from: usize, ordinal: usize, sought: Sought) -> usize
     ensures { λ r. ⌜ r ≡ placeFrom (passes sought) (now (book .entry)) from ordinal ⌝ }
 {

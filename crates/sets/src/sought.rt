@@ -4,7 +4,7 @@ use words::numbers::either;
 use words::parts::kind;
 ghost use mathlib.Core.Path.{_≡_};
 ghost use Rattle.rules.specs.Word.{kindOf};
-ghost use Rattle.cuts.proofs.ByKind.{opens, isSet};
+ghost use Rattle.cuts.proofs.ByKind as byKind;
 ghost use Rattle.sets.specs.Search.{endOf, leavesFinancing, passes};
 
 // The head of a set; or the first word behind a set. Behind a financing set two kinds are looked at instead of five, which is faster.
@@ -16,14 +16,14 @@ pub enum Sought {
 
 // "counting kinds 4 and 8 together"
 fn opens_set(kind: u32) -> bool
-    ensures { λ r. ⌜ r ≡ isSet kind ⌝ }
+    ensures { λ r. ⌜ r ≡ byKind.isSet kind ⌝ }
 {
     either(kind == kinds::DERIVATIVE_SET, kind == kinds::FINANCING_SET)
 }
 
 // "A set runs until another of these kinds or the end".
 fn opens_item(kind: u32) -> bool
-    ensures { λ r. ⌜ r ≡ opens kind ⌝ }
+    ensures { λ r. ⌜ r ≡ byKind.opens kind ⌝ }
 {
     let before_8 = either(kind == kinds::ASSET, kind == kinds::DERIVATIVE_SET);
     let before_10 = either(before_8, kind == kinds::FINANCING_SET);

@@ -34,7 +34,7 @@ loop-again c =
     let e = c .before .before .before .before .before .before in
     let l = c .before .before .before .loop in
     let long = c .before .before .before .before .if1 .left in
-    place-behind (passes (e .args .sought)) (e .args .book .now) (l .at) 256 (l .left) (c .before .found-in .result) (omega (arith, c .before .before .loop-test .taken)) (c .before .found-in .ensures) (c .if2 .left) ∙ l .inv
+    place-behind (passes (e .args .sought)) (e .args .book .now) (l .at) 64 (l .left) (c .before .found-in .result) (omega (arith, c .before .before .loop-test .taken)) (c .before .found-in .ensures) (c .if2 .left) ∙ l .inv
 
 returns-3 : tie.Need-returns-3 Inv-loop μ-loop
 returns-3 c = c .before .loop .inv
