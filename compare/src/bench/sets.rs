@@ -1,5 +1,5 @@
 //! The call that shows a set (request A.1) beside a filing of the same book, in
-//! turns, where it takes longest.
+//! turns, at ordinals for which all of the book is searched.
 
 use std::hint::black_box;
 use std::slice;
@@ -18,7 +18,11 @@ use crate::model::{kinds, Entry, LONGEST_BOOK, ROWS};
 const FURTHER: [(&str, Item, Option<usize>); 6] = [
     ("mixed", mixed, Some(256)),
     ("assets, a commitment in 256 words", rare_commitment, None),
-    ("assets, a commitment in 64 words", frequent_commitment, None),
+    (
+        "assets, a commitment in 64 words",
+        frequent_commitment,
+        None,
+    ),
     ("assets, a netted set in 256 words", rare_set, None),
     ("empty derivative sets", empty_derivative_set, None),
     ("empty financing sets", empty_financing_set, None),
@@ -27,7 +31,11 @@ const FURTHER: [(&str, Item, Option<usize>); 6] = [
 /// Books that begin with a set and go on with its members or with assets.
 const ONE_SET: [(&str, Item, Item); 4] = [
     ("one derivative set", empty_derivative_set, any_trade),
-    ("one derivative set, equal trades", empty_derivative_set, equal_trade),
+    (
+        "one derivative set, equal trades",
+        empty_derivative_set,
+        equal_trade,
+    ),
     ("one financing set", empty_financing_set, |words, random| {
         financing_trade(words, random, 2)
     }),
@@ -61,7 +69,7 @@ pub fn run() {
     }
 }
 
-/// At the ordinals that take longest.
+/// At the last set, and where there is one or none at the first ordinal without.
 fn measure(name: &str, book: &Vec<u32>) {
     let sets = sets_in(book);
     let last = sets.checked_sub(1);

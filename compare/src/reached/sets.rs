@@ -100,7 +100,9 @@ impl Reached {
     pub fn sets(&mut self, book: &[u32], register: &[Entry], answers: &[(usize, Shown)]) {
         let protections = protections(book);
         let further = register.len() > protections;
-        let no_set = answers.iter().find(|(_, shown)| shown.number == NO_SUCH_SET);
+        let no_set = answers
+            .iter()
+            .find(|(_, shown)| shown.number == NO_SUCH_SET);
         let of = no_set.map_or(0, |(ordinal, _)| *ordinal);
         for (index, &(ordinal, shown)) in answers.iter().enumerate() {
             match shown.number {
