@@ -1,11 +1,14 @@
-# make run:     file a sample book, or BOOK=FILE, and print its template; with SET=1, the words of one of its sets, counted from 0.
+# make run:     file a sample book, or BOOK=FILE, and print its template; with SET=1, the words of one of its sets, counted from 0; with
+#               SETTINGS=1, how many settings of that set's marks lead to each verdict.
 # make test:    the gate, .ci/run.
 # make samples: write the books of leverage_samples and the lines expected of it, from the seed.
 # make model:   check the implementation in compare/ by itself, and that those files are the ones it writes.
 # make printing: hold the printing program to that implementation, on the books in compare/books and on bad input.
-# make compare: file a million generated books, and show their sets, through the static library and through that implementation.
+# make compare: file a million generated books, show their sets and count the settings of some, through the static library and through that
+#               implementation.
 # make example: build and run include/example.c and the two callers in README.md.
-# make bench:   time the library and Rust on the same books, a set that is shown beside a filing, and the weighted add-on in three ways.
+# make bench:   time the library and Rust on the same books, a set that is shown and settings that are counted beside a filing, and the
+#               weighted add-on in three ways.
 BOOK = compare/books/sample.txt
 BOOKS = 1000000
 SEED = 1
@@ -16,7 +19,10 @@ COMPARE = target/compare/release/compare
 ARCHIVE = target/staticlib/libleverage.a
 
 .PHONY: run test samples model printing compare example bench printer second library
-ifdef SET
+ifdef SETTINGS
+run: library
+	@$(COMPARE) settings $(BOOK) $(SETTINGS)
+else ifdef SET
 run: library
 	@$(COMPARE) set $(BOOK) $(SET)
 else

@@ -1,5 +1,6 @@
 /*
- * The filing of a leverage book, and its sets, for C. Link with libleverage.a (`rt staticlib leverage`), x86-64.
+ * The filing of a leverage book, its sets, and what the marks of a set lead to, for C. Link with libleverage.a
+ * (`rt staticlib leverage`), x86-64.
  *
  * Example (include/example.c is the same, and prints more):
  *
@@ -61,7 +62,7 @@ enum leverage_cause {
     LEVERAGE_COVER_UNFIT = 12,    /* entity, rank or days unfit */
     LEVERAGE_COVER_BEYOND = 13,   /* cover beyond either amount */
     LEVERAGE_END = 14,            /* no end word, wrong count, words after it */
-    LEVERAGE_NO_SET = 15,         /* of leverage_show alone: the book is accepted and has no set of that ordinal */
+    LEVERAGE_NO_SET = 15,         /* book accepted: no set of that ordinal (leverage_show), no derivative set of it (leverage_settings) */
     LEVERAGE_DATE = 16,           /* reporting date above 36,524 or no good amount */
     LEVERAGE_BASKET = 17          /* basket: n or m outside 1 to 32, n above m, a grade above 31 */
 };
@@ -121,6 +122,30 @@ struct leverage_stretch {
  *         ... s.words[0] is the head of the third set, s.words - book its place ...
  */
 uint64_t leverage_show(const uint32_t *book, size_t book_len, size_t ordinal, struct leverage_entry *reg, size_t reg_len, struct leverage_stretch *stretch);
+
+/*
+ * Counts the settings of a derivative set: of the 64 ways in which its six marks (bits 0 to 5 of its head) can be set or not, how many lead
+ * to each verdict, all else in the book as it stands. The marks that it is filed with are one of them. Sets are counted as for leverage_show,
+ * financing sets too; any ordinal may be asked for.
+ *
+ * Answers number and place as leverage_file does. There is no verdict: bits 8 to 15 are 3 always, also where settings are counted.
+ *
+ * Counted (number 0): each count is at the number of its verdict, LEVERAGE_ENOUGH, LEVERAGE_TOO_LITTLE or LEVERAGE_NO_EXPOSURE, and they sum to
+ * 64.
+ * Refused: number and place of the book's own refusal, or 15 at place 0 where the book is accepted and the ordinal names no set or a financing
+ * set. All three counts are 0.
+ * In every case the register is left as leverage_file leaves it for that book, as it stands, with 22 rows or more, at 15 as for an accepted
+ * book; no rows are lent.
+ *
+ * Book and register are as for leverage_file. The counts lead to three numbers of their own, apart from both; what they held before does not
+ * matter, and all three are written.
+ *
+ *     uint32_t counts[3] = {0};
+ *     uint64_t a = leverage_settings(book, book_len, 2, reg, reg_len, counts);
+ *     if (leverage_number(a) == LEVERAGE_ACCEPTED)
+ *         ... counts[LEVERAGE_TOO_LITTLE] settings of the third set's marks are too little ...
+ */
+uint64_t leverage_settings(const uint32_t *book, size_t book_len, size_t ordinal, struct leverage_entry *reg, size_t reg_len, uint32_t counts[3]);
 
 /* The parts of an answer. */
 static inline uint32_t leverage_number(uint64_t answer) { return (uint32_t)(answer & 0xFF); }

@@ -1,10 +1,13 @@
 //! How long the library takes: on whole books beside two Rust implementations, to
-//! show a set of a book, and for the weighted add-on alone in three ways.
+//! show a set of a book, to count the settings of one, and for the weighted add-on
+//! alone in three ways.
 
 mod addons;
 mod books;
 mod items;
+mod long;
 mod sets;
+mod settings;
 
 use std::time::Instant;
 
@@ -14,6 +17,8 @@ pub fn run() {
     books::run();
     println!();
     sets::run();
+    println!();
+    settings::run();
     println!();
     addons::run();
 }

@@ -1,14 +1,22 @@
 //! The model against another implementation, on the same books and buffers, and
 //! both against what must hold of every filing, on two desks, with further covers
-//! and with one amount corrected. Sets of each book are shown by both as well.
+//! and with one amount corrected. Sets of each book are shown by both as well, and
+//! the settings of some are counted.
 
+mod filed;
+mod ordinals;
+mod settings;
 mod shows;
+#[cfg(test)]
+mod tests;
 
-use crate::filing::{hexadecimal, Buffers, Counts, Filing, Lengths, Pairs, Showing};
+use crate::filing::{hexadecimal, Buffers, Counting, Counts, Filing, Lengths, Pairs, Showing};
 use crate::generate::{self, corrections, further_covers, more_marks, Correction, Random};
 use crate::model::Answer;
 use crate::reached::Reached;
 use crate::{laws, model};
+use filed::Filed;
+use settings::Settings;
 use shows::Shows;
 
 /// Books between two changes of the dirt in the buffers.
@@ -20,6 +28,7 @@ pub struct Peer {
     pub name: &'static str,
     pub file: Filing,
     pub show: Showing,
+    pub settings: Counting,
 }
 
 pub fn run(peer: Peer, books: u64, seed: u64) -> Result<(), String> {
@@ -36,6 +45,7 @@ pub fn run(peer: Peer, books: u64, seed: u64) -> Result<(), String> {
     sides.counts.print();
     sides.pairs.print();
     sides.shows.print();
+    sides.settings.print();
     sides.reached.print();
     sides.counts.complete()?;
     sides.pairs.complete()?;
@@ -59,6 +69,7 @@ struct Sides {
     counts: Counts,
     pairs: Pairs,
     shows: Shows,
+    settings: Settings,
     reached: Reached,
 }
 
@@ -72,6 +83,7 @@ impl Sides {
             counts: Counts::default(),
             pairs: Pairs::default(),
             shows: Shows::new(peer, seed),
+            settings: Settings::new(peer, seed),
             reached: Reached::default(),
         }
     }
@@ -88,9 +100,9 @@ impl Sides {
         let lengths = Lengths::choose(&book, random);
         let before = self.model_side.clone();
         let answer = self.file(&book, lengths, &before)?;
-        let register = &before.register;
-        self.shows
-            .book(&book, lengths, register, &mut self.reached)?;
+        let filed = Filed::new(&book, lengths, &before.register);
+        self.shows.book(&filed, &mut self.reached)?;
+        self.settings.book(&filed, &mut self.reached)?;
         let first = First {
             book,
             lengths,

@@ -6,9 +6,11 @@ mod baskets;
 mod derivatives;
 mod financing;
 mod sets;
+mod settings;
 mod sums;
 
 pub use sets::show;
+pub use settings::settings;
 
 use crate::model::{Answer, Entry, FIRST_RECORD, LAST_DATE, LONGEST_BOOK, NO_VERDICT, ROWS};
 use bands::{bands, Bands};

@@ -4,7 +4,7 @@
 mod tests;
 
 use crate::generate::{Amount, Random};
-use crate::model::{Answer, Entry, Shown, ROWS};
+use crate::model::{Answer, Counted, Entry, Shown, ROWS};
 
 const MOST_ROWS: usize = 40;
 /// Somewhat more than the largest count of protections.
@@ -103,7 +103,11 @@ pub type Filing = fn(&[u32], &mut [i64], &mut [Entry]) -> Answer;
 /// The call that shows a set, by its ordinal.
 pub type Showing = for<'a> fn(&'a [u32], usize, &mut [Entry]) -> Shown<'a>;
 
-/// The number of an accepted book that has no set of the ordinal asked for.
+/// The call that counts the settings of a set, by its ordinal.
+pub type Counting = fn(&[u32], usize, &mut [Entry]) -> Counted;
+
+/// The number of an accepted book that has no set of the ordinal asked for, or none
+/// of the kind that is due.
 pub const NO_SUCH_SET: u32 = 15;
 
 /// The numbers that a filing answers, in the order in which they are judged.

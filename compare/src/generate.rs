@@ -1,6 +1,6 @@
 //! Seeded books: valid ones, damaged ones, and the second ones of pairs, with
-//! more marks, with further covers, with one amount corrected, or with a set
-//! doubled, lengthened or put off.
+//! more marks, with further covers, with one amount corrected, with a set doubled,
+//! lengthened or put off, or with Tier 1 where the marks of a set decide.
 
 mod corrections;
 mod covers;
@@ -9,6 +9,7 @@ mod dates;
 mod marks;
 mod random;
 mod sets;
+mod settings;
 #[cfg(test)]
 mod tests;
 mod valid;
@@ -18,8 +19,9 @@ pub use covers::further_covers;
 pub use marks::more_marks;
 pub use random::Random;
 pub use sets::around_a_set;
+pub use settings::{members, on_an_edge, stretch, values, OnAnEdge};
 
-use crate::model::{kinds, LONGEST_BOOK};
+use crate::model::{kinds, FIRST_RECORD, LONGEST_BOOK};
 
 pub const AMOUNT_LIMIT: u32 = 1 << 27;
 
@@ -72,6 +74,15 @@ pub fn amounts(word: u32) -> usize {
 pub fn sets_in(words: &[u32]) -> usize {
     let heads = |word: &&u32| matches!(**word >> 28, kinds::DERIVATIVE_SET | kinds::FINANCING_SET);
     words.iter().filter(heads).count()
+}
+
+/// The words of a protection.
+const PROTECTION: usize = 4;
+
+/// Where the protections of an accepted book have ended.
+pub fn protections_end(book: &[u32]) -> usize {
+    let protections = (book[0] & 0x0FFF_FFFF) as usize;
+    FIRST_RECORD + PROTECTION * protections
 }
 
 /// Writes the count into the last word if that is an end word.

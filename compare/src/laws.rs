@@ -1,12 +1,14 @@
 //! What holds of every filing, of two filings on two desks, and of two where the
 //! second book has further covers or one amount corrected; and of sets that are
-//! shown.
+//! shown or have their settings counted.
 
 mod corrections;
 mod sets;
+mod settings;
 
 pub use corrections::{conversion, correction, CEILING, CONVERSION, FURTHER_CEILING};
 pub use sets::{sets, shown};
+pub use settings::{counted, counted_with_more_marks, counted_with_other_marks, ALL_COUNTS};
 
 use crate::filing::{same_entries, Buffers, Lengths};
 use crate::model::{Answer, Entry, FIRST_RECORD, ROWS};

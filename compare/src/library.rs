@@ -3,7 +3,7 @@
 
 use std::slice;
 
-use crate::model::{Answer, Entry, Shown, NO_VERDICT};
+use crate::model::{Answer, Counted, Entry, Shown, NO_VERDICT, VERDICTS};
 
 extern "C" {
     fn leverage_file(
@@ -21,6 +21,14 @@ extern "C" {
         register: *mut Entry,
         register_len: usize,
         stretch: *mut Stretch,
+    ) -> u64;
+    fn leverage_settings(
+        book: *const u32,
+        book_len: usize,
+        ordinal: usize,
+        register: *mut Entry,
+        register_len: usize,
+        counts: *mut u32,
     ) -> u64;
 }
 
@@ -81,6 +89,35 @@ pub fn show<'a>(book: &'a [u32], ordinal: usize, register: &mut [Entry]) -> Show
         number: (packed & 0xFF) as u32,
         place: (packed >> 16) as usize,
         stretch,
+    }
+}
+
+/// What counts are before the call: more than there are settings, so that it is told
+/// if the library leaves one of them so.
+const UNCOUNTED: u32 = u32::MAX;
+
+/// As above, the answer has no verdict. The counts stand before one more number,
+/// which is not lent.
+pub fn settings(book: &[u32], ordinal: usize, register: &mut [Entry]) -> Counted {
+    let mut numbers = [UNCOUNTED; VERDICTS + 1];
+    // SAFETY: as above, and there is a number for each verdict.
+    let packed = unsafe {
+        leverage_settings(
+            book.as_ptr(),
+            book.len(),
+            ordinal,
+            register.as_mut_ptr(),
+            register.len(),
+            numbers.as_mut_ptr(),
+        )
+    };
+    assert_eq!(packed >> 8 & 0xFF, u64::from(NO_VERDICT));
+    let [counts @ .., behind] = numbers;
+    assert_eq!(behind, UNCOUNTED);
+    Counted {
+        number: (packed & 0xFF) as u32,
+        place: (packed >> 16) as usize,
+        counts,
     }
 }
 

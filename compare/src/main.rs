@@ -30,6 +30,9 @@ compare N SEED     compare the library with the model (feature `library`)
 bench              time the library and Rust (feature `library`)
 text FILE          turn a text book into little-endian words on standard output
 set FILE ORDINAL   write the records of one set of a text book (feature `library`)
+settings FILE ORDINAL
+                   write how many settings of that set's marks lead to each
+                   verdict (feature `library`)
 print              write what the printing program is to write for standard input
 samples N SEED DIR write the books of the test program and its lines";
 
@@ -52,6 +55,7 @@ fn run(arguments: &[&str]) -> Result<(), String> {
         ["bench"] => bench(),
         ["text", file] => print_words(file),
         ["set", file, set] => print_set(file, ordinal(set)?),
+        ["settings", file, set] => print_settings(file, ordinal(set)?),
         ["print"] => print_template(),
         ["samples", books, seed, folder] => {
             samples::write(number(books)?, number(seed)?, Path::new(folder))
@@ -94,6 +98,7 @@ fn selftest(books: u64, seed: u64) -> Result<(), String> {
         name: "fast",
         file: fast::file,
         show: fast::show,
+        settings: fast::settings,
     };
     comparison::run(peer, books, seed)
 }
@@ -104,18 +109,30 @@ fn compare(books: u64, seed: u64) -> Result<(), String> {
         name: "library",
         file: library::file,
         show: library::show,
+        settings: library::settings,
     };
     comparison::run(peer, books, seed)
 }
 
+/// A register with as many entries as a book can use.
+#[cfg(feature = "library")]
+fn register() -> Vec<model::Entry> {
+    vec![model::Entry::default(); 4_096]
+}
+
 #[cfg(feature = "library")]
 fn print_set(file: &str, ordinal: usize) -> Result<(), String> {
-    /// The most that a book can use.
-    const ENTRIES: usize = 4_096;
     let book = words_of(file)?;
-    let mut register = vec![model::Entry::default(); ENTRIES];
-    let shown = library::show(&book, ordinal, &mut register);
+    let shown = library::show(&book, ordinal, &mut register());
     print!("{}", text::set::lines(&book, ordinal, &shown));
+    Ok(())
+}
+
+#[cfg(feature = "library")]
+fn print_settings(file: &str, ordinal: usize) -> Result<(), String> {
+    let book = words_of(file)?;
+    let counted = library::settings(&book, ordinal, &mut register());
+    print!("{}", text::settings::lines(&counted));
     Ok(())
 }
 
@@ -132,6 +149,11 @@ fn compare(_books: u64, _seed: u64) -> Result<(), String> {
 
 #[cfg(not(feature = "library"))]
 fn print_set(_file: &str, _ordinal: usize) -> Result<(), String> {
+    Err("built without the feature `library`".to_string())
+}
+
+#[cfg(not(feature = "library"))]
+fn print_settings(_file: &str, _ordinal: usize) -> Result<(), String> {
     Err("built without the feature `library`".to_string())
 }
 

@@ -11,6 +11,7 @@ mod head;
 mod records;
 mod refusal;
 mod sets;
+mod settings;
 mod template;
 #[cfg(test)]
 mod tests;
@@ -18,6 +19,7 @@ mod weighing;
 mod words;
 
 pub use sets::{show, Shown};
+pub use settings::{counted, set_to, verdicts, Counted, Verdicts, SETTINGS, SET_MARKS, VERDICTS};
 pub use words::kinds;
 
 use std::ops::Range;

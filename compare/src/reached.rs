@@ -1,6 +1,7 @@
 //! What accepted books make use of, what corrections of them do, which of their sets
-//! are shown, and how heads, baskets and the showing of sets are refused. Each thing
-//! on the list is counted, and one that never came is a fault of the generator.
+//! are shown, what the settings of these come to, and how heads, baskets and calls
+//! about sets are refused. Each thing on the list is counted, and one that never came
+//! is a fault of the generator.
 
 mod bands;
 mod baskets;
@@ -10,6 +11,7 @@ mod heads;
 mod kept;
 mod refused_baskets;
 mod sets;
+mod settings;
 
 use std::collections::BTreeMap;
 
@@ -43,6 +45,7 @@ impl Default for Reached {
             heads::list(),
             refused_baskets::list(),
             sets::list(),
+            settings::list(),
         ];
         Reached::listing(uses().into_iter().chain(others.concat()))
     }
@@ -140,7 +143,7 @@ impl Reached {
     pub fn print(&self) {
         let least = self.0.values().min().copied().unwrap_or_default();
         let features = self.0.len();
-        println!("records, marks, classes, dates, bands, covers, baskets, amounts, corrections, refused heads and baskets, shown sets: {features} on the list, each {least} times or more");
+        println!("records, marks, classes, dates, bands, covers, baskets, amounts, corrections, refused heads and baskets, shown sets, settings: {features} on the list, each {least} times or more");
     }
 
     fn came(&mut self, name: &'static str, numbers: [u32; 3]) {

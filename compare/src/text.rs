@@ -12,6 +12,8 @@ mod date;
 mod forms;
 #[cfg(any(feature = "library", test))]
 pub mod set;
+#[cfg(any(feature = "library", test))]
+pub mod settings;
 #[cfg(test)]
 mod tests;
 

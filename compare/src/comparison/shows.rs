@@ -1,27 +1,20 @@
 //! Sets of each book as the model and another implementation show them, in equal
 //! registers: against each other, and against the filing of that book.
 
-mod ordinals;
 #[cfg(test)]
 mod tests;
 
+use super::filed::Filed;
+use super::ordinals::{self, LONG};
 use super::Peer;
-use crate::filing::{hexadecimal, same_entries, Lengths, NO_SUCH_SET};
+use crate::filing::{hexadecimal, same_entries, NO_SUCH_SET};
 use crate::generate::{around_a_set, Random};
 use crate::laws;
-use crate::model::{self, Answer, Entry, Shown, ROWS};
+use crate::model::{self, Shown};
 use crate::reached::Reached;
 
 /// One in so many accepted books is changed around one of its sets and shown again.
 const CHANGED: u32 = 3;
-
-/// Entries that are lent beyond those that the book uses, and entries behind them
-/// that are not lent: all are compared at each call, so they are few.
-const FURTHER: usize = 4;
-const NOT_LENT: usize = 2;
-
-/// Longer books have only a few of their sets shown.
-const LONG: usize = 20_000;
 
 /// The calls of one run, and how many of them showed a set, were refused 15, and
 /// were refused with their book.
@@ -32,34 +25,6 @@ pub struct Shows {
     sets: u64,
     no_sets: u64,
     refused: u64,
-}
-
-/// A book, how much of a register with which contents it is lent, and what its
-/// filing makes of that. The filing is lent all rows, as no call that shows a set
-/// is refused for them.
-struct Filed<'a> {
-    book: &'a [u32],
-    before: &'a [Entry],
-    lent: usize,
-    answer: Answer,
-    after: Vec<Entry>,
-}
-
-impl<'a> Filed<'a> {
-    fn new(book: &'a [u32], lengths: Lengths, before: &'a [Entry]) -> Self {
-        let head = book.first().map_or(0, |word| word & 0x0FFF_FFFF);
-        let lent = lengths.register.min(head as usize + FURTHER);
-        let before = &before[..(lent + NOT_LENT).min(before.len())];
-        let mut after = before.to_vec();
-        let answer = model::file(book, &mut [0; ROWS], &mut after[..lent]);
-        Filed {
-            book,
-            before,
-            lent,
-            answer,
-            after,
-        }
-    }
 }
 
 impl Shows {
@@ -74,15 +39,10 @@ impl Shows {
     }
 
     /// Shows sets of a filed book, and now and then of the same with a set doubled,
-    /// lengthened or put off; `before` is what the register held before the filing.
-    pub fn book(
-        &mut self,
-        book: &[u32],
-        lengths: Lengths,
-        before: &[Entry],
-        reached: &mut Reached,
-    ) -> Result<(), String> {
-        let mut answers = self.answers(&Filed::new(book, lengths, before), reached)?;
+    /// lengthened or put off.
+    pub fn book(&mut self, filed: &Filed, reached: &mut Reached) -> Result<(), String> {
+        let book = filed.book;
+        let mut answers = self.answers(filed, reached)?;
         answers.retain(|(_, shown)| shown.number == 0);
         if answers.is_empty() || book.len() > LONG || !self.random.one_in(CHANGED) {
             return Ok(());
@@ -90,7 +50,7 @@ impl Shows {
         let (_, set) = self.random.pick(&answers);
         let begin = set.begin(book).unwrap_or_default();
         let book = around_a_set(book, begin..begin + set.stretch.len(), &mut self.random);
-        let again = self.answers(&Filed::new(&book, lengths, before), reached);
+        let again = self.answers(&filed.with(&book), reached);
         again.map(|_| ())
     }
 

@@ -24,7 +24,7 @@ const LENT: usize = 5;
 const PROVISION: usize = 2;
 const DEDUCTED: usize = 3;
 
-const LARGEST: i32 = AMOUNT_LIMIT as i32 - 1;
+pub(super) const LARGEST: i32 = AMOUNT_LIMIT as i32 - 1;
 
 /// One in so many books has a netted value corrected, if there is any.
 const NETTED_VALUES: u32 = 4;
@@ -222,7 +222,7 @@ fn another(amount: i32, least: i32, random: &mut Random) -> i32 {
 }
 
 /// The amount that a good word has.
-fn signed(word: u32) -> i32 {
+pub(super) fn signed(word: u32) -> i32 {
     let size = (word & (AMOUNT_LIMIT - 1)) as i32;
     if word & AMOUNT_LIMIT == 0 {
         size
@@ -232,7 +232,7 @@ fn signed(word: u32) -> i32 {
 }
 
 /// The sign goes into the bit above the largest size.
-fn word_of(amount: i32) -> u32 {
+pub(super) fn word_of(amount: i32) -> u32 {
     let sign = if amount < 0 { AMOUNT_LIMIT } else { 0 };
     sign | amount.unsigned_abs()
 }

@@ -4,8 +4,8 @@
 
 use std::ops::Range;
 
-use super::{correct_count, word, Random};
-use crate::model::{kinds, FIRST_RECORD};
+use super::{correct_count, protections_end, word, Random};
+use crate::model::kinds;
 
 /// Steps are powers of two, from 32 to 1,024 words.
 const STEPS: [u32; 2] = [5, 10];
@@ -53,8 +53,7 @@ pub(super) fn lengthened(book: &[u32], set: Range<usize>, words: usize) -> Vec<u
 
 /// With items before all others, so that so many words go before what stands here.
 pub(super) fn put_off(book: &[u32], place: usize, words: usize, random: &mut Random) -> Vec<u32> {
-    let protections = (book[0] & 0x0FFF_FFFF) as usize;
-    let first_item = FIRST_RECORD + 4 * protections;
+    let first_item = protections_end(book);
     let missing = words.saturating_sub(place - first_item);
     let item: &[u32] = match random.below(2) {
         0 => &[word(2, 0), 7, 0, 0],

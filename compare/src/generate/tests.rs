@@ -3,6 +3,7 @@
 mod corrections;
 mod covers;
 mod sets;
+mod settings;
 
 use std::collections::BTreeMap;
 

@@ -9,24 +9,20 @@ use std::ptr;
 
 use super::ensure;
 use crate::filing::{same_entries, NO_SUCH_SET};
-use crate::generate::sets_in;
-use crate::model::{kinds, Answer, Entry, Shown, FIRST_RECORD};
+use crate::generate::{protections_end, sets_in};
+use crate::model::{kinds, Answer, Entry, Shown};
 
-const ACCEPTED: u32 = 0;
+pub(super) const ACCEPTED: u32 = 0;
 
-/// The words of a protection.
-const PROTECTION: usize = 4;
-
-/// A call that shows a set, beside a filing of the same book in a register of the
-/// same length and the same earlier contents, which is lent rows enough.
-pub fn shown(
-    book: &[u32],
-    shown: &Shown,
+/// Number and place of a call about a set, and the register that it leaves, beside a
+/// filing of the same book in a register of the same length and the same earlier
+/// contents, which is lent rows enough.
+pub(super) fn beside_a_filing(
+    answer: (u32, usize),
     register: &[Entry],
     filed: &Answer,
     register_filed: &[Entry],
 ) -> Result<(), String> {
-    let answer = (shown.number, shown.place);
     match filed.number {
         ACCEPTED => {
             let allowed = [(ACCEPTED, 0), (NO_SUCH_SET, 0)];
@@ -37,12 +33,25 @@ pub fn shown(
             ensure(answer == own, "not the book's own number and place")?;
         }
     }
-    if shown.number != ACCEPTED {
-        let empty = ptr::eq(shown.stretch, &book[..0]);
-        ensure(empty, "a refusal has no empty stretch at the first word")?;
-    }
     let same = same_entries(register, register_filed);
     ensure(same, "the register is not as a filing leaves it")
+}
+
+/// A call that shows a set, beside a filing.
+pub fn shown(
+    book: &[u32],
+    shown: &Shown,
+    register: &[Entry],
+    filed: &Answer,
+    register_filed: &[Entry],
+) -> Result<(), String> {
+    let answer = (shown.number, shown.place);
+    beside_a_filing(answer, register, filed, register_filed)?;
+    let empty = ptr::eq(shown.stretch, &book[..0]);
+    ensure(
+        empty || shown.number == ACCEPTED,
+        "a refusal has no empty stretch at the first word",
+    )
 }
 
 fn is_head(word: u32) -> bool {
@@ -69,9 +78,8 @@ fn is_amount(word: u32) -> bool {
 /// order and apart, each is one whole set, and between them are just those sets
 /// that were not asked for.
 pub fn sets(book: &[u32], shown: &[(usize, Shown)]) -> Result<(), String> {
-    let protections = (book[0] & 0x0FFF_FFFF) as usize;
     // Where the words begin that are not accounted for, and the next set in them.
-    let mut place = FIRST_RECORD + PROTECTION * protections;
+    let mut place = protections_end(book);
     let mut next = 0;
     for (ordinal, shown) in shown {
         let not_asked_for = ordinal - next;

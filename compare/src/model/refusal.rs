@@ -21,7 +21,8 @@ pub enum Cause {
     CoverTooLarge = 13,
     BasketFaulty = 17,
     EndFaulty = 14,
-    /// Of no filing: of the call that shows a set, behind all causes of the book.
+    /// Of no filing: of the calls that show a set or count its settings, behind all
+    /// causes of the book.
     NoSuchSet = 15,
 }
 

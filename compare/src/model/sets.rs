@@ -1,6 +1,7 @@
 //! Request A.1: one set of an accepted book, as it stands there.
 
 use std::fmt;
+use std::ops::Range;
 use std::ptr;
 
 use super::refusal::{Cause, Refusal};
@@ -63,22 +64,22 @@ pub fn show<'a>(book: &'a [u32], ordinal: usize, register: &mut [Entry]) -> Show
         Ok(stretch) => Shown {
             number: 0,
             place: 0,
-            stretch,
+            stretch: &book[stretch],
         },
         Err(refusal) => Shown::refused(book, refusal.cause.number(), refusal.place),
     }
 }
 
-/// By what the audit passed, and not by a look at the words.
-fn try_show<'a>(
-    book: &'a [u32],
+/// Where that set stands, by what the audit passed, and not by a look at the words.
+pub(super) fn try_show(
+    book: &[u32],
     ordinal: usize,
     register: &mut [Entry],
-) -> Result<&'a [u32], Refusal> {
+) -> Result<Range<usize>, Refusal> {
     let mut sets = Vec::new();
     audited(book, register, &mut |stretch| sets.push(stretch))?;
     match sets.get(ordinal) {
-        Some(stretch) => Ok(&book[stretch.clone()]),
+        Some(stretch) => Ok(stretch.clone()),
         None => Err(Cause::NoSuchSet.at_start()),
     }
 }

@@ -8,6 +8,7 @@ mod covers;
 mod refusals;
 mod samples;
 mod sets;
+mod settings;
 
 use super::{file, Answer, Entry, FIRST_RECORD, LAST_DATE, LONGEST_BOOK, NO_VERDICT, ROWS};
 use crate::samples::SAMPLE_DATE;

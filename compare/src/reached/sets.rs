@@ -89,7 +89,7 @@ fn kinds_in(words: &[u32]) -> impl DoubleEndedIterator<Item = u32> + '_ {
 }
 
 /// The count of protections that the head has, good or not.
-fn protections(book: &[u32]) -> usize {
+pub(super) fn protections(book: &[u32]) -> usize {
     book.first().map_or(0, |word| word & 0x0FFF_FFFF) as usize
 }
 

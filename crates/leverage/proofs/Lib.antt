@@ -1,2 +1,3 @@
 pub mod PackLaws
 pub mod PutCalls
+pub mod CountsCalls

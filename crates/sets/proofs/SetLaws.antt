@@ -68,7 +68,7 @@ nth-among (q ∷ l) n p e = go (isSet (q .item)) refl n e (λ m f. nth-among l m
 
 -- ---- where a set begins
 
-beginOr : ℕ → Option Placed → ℕ
+unfoldable pub beginOr : ℕ → Option Placed → ℕ
 beginOr d none = d
 beginOr d (some p) = p .begin
 
@@ -78,7 +78,7 @@ nth-begins [] n d = refl
 nth-begins (p ∷ l) zero d = refl
 nth-begins (p ∷ l) (suc n) d = nth-begins l n d
 
-begin-found : (ws : List ℕ) → itemsOf ws .number ≡ 0 → (n : ℕ) → placeFrom by-kind.isSet ws (itemsBegin ws) n ≡ beginOr (length ws) (getElem? (setsOf (itemsOf ws .records)) n)
+pub begin-found : (ws : List ℕ) → itemsOf ws .number ≡ 0 → (n : ℕ) → placeFrom by-kind.isSet ws (itemsBegin ws) n ≡ beginOr (length ws) (getElem? (setsOf (itemsOf ws .records)) n)
 unfolding placeFrom
 begin-found ws e n = rw (sets-by-kind ws e, sets-picked (itemsOf ws .records)) (nth-begins (setsOf (itemsOf ws .records)) n (length ws))
 

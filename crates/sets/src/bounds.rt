@@ -16,7 +16,7 @@ ghost use Rattle.sets.specs.Sets.{VeryStretch, turnedAway};
 ghost use Rattle.sets.specs.Search.{foundAt, foundIn, placeFrom, Within};
 
 // "An ordinal with no set is refused 15".
-const NO_SUCH_SET: u32 = 15;
+pub const NO_SUCH_SET: u32 = 15;
 
 // "Every refusal hands back an empty stretch".
 fn turned_away(number: u32, place: usize) -> Shown
@@ -31,7 +31,7 @@ fn turned_away(number: u32, place: usize) -> Shown
 }
 
 // Where the items begin: behind the head and its protections, of which no word is an item's.
-fn items_begin(book: &[u32]) -> usize
+pub fn items_begin(book: &[u32]) -> usize
     ensures { λ r. ⌜ r ≡ itemsBegin (now (book .entry)) ⌝ }
 {
     limits::FIRST_RECORD + lengths::PROTECTION * protections_of(book)

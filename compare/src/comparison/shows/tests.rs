@@ -1,35 +1,18 @@
 //! That an implementation which shows sets wrongly is found out.
 
-use crate::comparison::{run, Peer};
-use crate::fast::{self, show};
+use super::super::tests::{self, ANOTHER_ANSWER, ANOTHER_REGISTER, RIGHT};
+use crate::comparison::Peer;
+use crate::fast::show;
 use crate::filing::Showing;
 use crate::model::{Entry, Shown};
 
 #[track_caller]
 fn assert_found_out(wrong: Showing, what: &str) {
     let peer = Peer {
-        name: "wrong",
-        file: fast::file,
         show: wrong,
+        ..RIGHT
     };
-    let failed = run(peer, 1_000, 1).unwrap_err();
-    let expected = format!("model against wrong: {what}");
-    assert_eq!(failed.lines().last(), Some(expected.as_str()));
-}
-
-const ANOTHER_ANSWER: &str = "another answer";
-const ANOTHER_REGISTER: &str = "another register";
-
-#[test]
-fn nothing_is_found_where_all_is_right() {
-    let peer = Peer {
-        name: "right",
-        file: fast::file,
-        show,
-    };
-    // So few books do not have all that is on the list.
-    let failed = run(peer, 1_000, 1).unwrap_err();
-    assert!(failed.starts_with("never came: "), "{failed}");
+    tests::assert_found_out(peer, what);
 }
 
 #[test]

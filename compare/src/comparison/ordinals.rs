@@ -1,7 +1,9 @@
 //! Which sets of a book are asked for.
 
-use super::LONG;
 use crate::generate::{sets_in, Random};
+
+/// Longer books are asked for only a few of their sets.
+pub const LONG: usize = 20_000;
 
 /// So many of the first sets are all asked for, if the book is not too long.
 const FIRST: usize = 8;

@@ -1,0 +1,11 @@
+pub mod Ahead
+pub mod Covers
+pub mod Taken
+pub mod Gathering
+pub mod PieceLaws
+pub mod CountLaws
+pub mod SetHere
+pub mod ChosenLaws
+pub mod CountCalls
+pub mod SettingLaws
+pub mod AnswerLaws

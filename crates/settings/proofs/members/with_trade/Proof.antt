@@ -1,0 +1,10 @@
+use Rattle.settings.proofs.Gathering.{trade-is}
+use borrow.Author.Needs.{needs}
+use Rattle.settings.proofs.members.with_trade.Statement.{statement}
+use Rattle.settings.proofs.members.with_trade.Tie as tie
+
+returns : tie.Need-returns
+returns c = trade-is _ _ _ (c .before .trade-words .ensures) (c .add-trade .ensures)
+
+pub with-trade-spec : {M : Type 1} → statement M
+with-trade-spec = tie.close (tie.spec (search needs) (search needs) (search needs) returns)

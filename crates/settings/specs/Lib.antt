@@ -1,0 +1,4 @@
+pub mod Settings
+pub mod Members
+pub mod Pieces
+pub mod Chosen
