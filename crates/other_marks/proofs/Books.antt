@@ -8,20 +8,17 @@ use lib.IntN.{pos}
 use lib.ListN.{length, drop, set, length-set, length-drop}
 use lib.Seq.{getD-set-same, getD-set-other, set-getD, getD-drop}
 use Rattle.rules.specs.declared.Entry.{Entry}
-use Rattle.rules.specs.declared.Draw.{Draw}
 use Rattle.rules.specs.Word.{word}
 use Rattle.rules.specs.Book.{DerivativeSet, Item, derivatives, Placed}
-use Rattle.rules.specs.Read.{headOf, protectionsOf, itemsOf}
-use Rattle.rules.specs.Register.{drawsIn, drawsOver, entryOf, settle, settled}
+use Rattle.rules.specs.Read.{itemsOf}
+use Rattle.rules.specs.Register.{drawsIn, drawsOver}
 use Rattle.rules.specs.Rows.{sumOver}
-use Rattle.rules.specs.Filing.{outcomeOf, accepted}
+use Rattle.rules.specs.Filing.{accepted}
 use Rattle.rules.proofs.Lists.{total-append}
-use Rattle.laws.specs.Exposure.{exposureOf}
 use Rattle.laws.specs.ReadAs.{ReadAs}
 use Rattle.laws.proofs.Accepted.{accepted-is, is-accepted}
 use Rattle.laws.proofs.ExposureSum.{exposure-is-sum}
 use Rattle.laws.proofs.Records.{head-word}
-use Rattle.cuts.proofs.Records.{ItemRead}
 use Rattle.cuts.proofs.Cutting.{ItemHere, EndHere, StandsIn, item-stands, here-onward, book-cut}
 use Rattle.cuts.proofs.Moved.{Stretch}
 use Rattle.cuts.proofs.Local.{stay, map-same}

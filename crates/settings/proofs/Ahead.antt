@@ -1,12 +1,12 @@
 -- A run that ends without a fault, one record on: nothing stands there, or a record does and the run goes on behind it. Once for covers and members.
 -- Assumes nothing.
-use Prim.Native.Nat.{ℕ, suc, _≤_, _<_}
-use mathlib.Core.Path.{_≡_, refl, _∙_, ap}
+use Prim.Native.Nat.{ℕ, _≤_, _<_}
+use mathlib.Core.Path.{_≡_, refl}
 use mathlib.Core.List.{List, [], _∷_}
 use native.Mathlib.Omega.{arith}
 use lib.ListN.{length}
 use Rattle.rules.specs.declared.Bands.{Bands}
-use Rattle.rules.specs.Run.{Turn, Run, thenRun, runFrom}
+use Rattle.rules.specs.Run.{Turn, Run, thenRun}
 use Rattle.rules.specs.Read.{coverTurn, memberTurn}
 use Rattle.rules.proofs.Runs.{run-on}
 use Rattle.laws.proofs.MemberBounds.{perWord, coverWeight, fine-cover, memberWeight, fine-member}

@@ -1,18 +1,17 @@
 -- The derivative set of an ordinal: the search by kinds finds it, or what it finds is none. Assumes nothing.
-use Prim.Native.Nat.{ℕ, _≤_, _<_}
+use Prim.Native.Nat.{ℕ}
 use mathlib.Core.Path.{_≡_, refl, sym, _∙_, ap}
-use mathlib.Core.Bool.{Bool, true, false, not, cond}
+use mathlib.Core.Bool.{Bool, true, false, not}
 use mathlib.Core.List.{List, _∷_, _++_}
 use mathlib.Core.Option.{Option, none, some}
 use native.Mathlib.Omega.{arith}
 use borrow.Author.Tests.{le-ltb, not-true, not-false}
-use lib.Dec.{eqb}
 use lib.ListN.{length, getElem?}
 use Rattle.rules.specs.declared.Entry.{Entry}
 use Rattle.rules.specs.declared.Sums.{Sums}
 use Rattle.rules.specs.Word.{word, kindOf}
 use Rattle.rules.specs.Book.{Item, asset, derivatives, financing, offBalance, Placed}
-use Rattle.rules.specs.Read.{headOf, stands, itemsOf}
+use Rattle.rules.specs.Read.{headOf, stands}
 use Rattle.rules.specs.Rows.{sumsOf}
 use Rattle.rules.specs.Filing.{Outcome, early, refused, accepted, admission, outcomeOf}
 use Rattle.laws.specs.ReadAs.{ReadAs}
@@ -22,7 +21,7 @@ use Rattle.reading.specs.declared.Admission.the-variants.{Admitted, Refused}
 use Rattle.template.specs.Sections.{SumsFit}
 use Rattle.filing.specs.Answers.{admissionOf}
 use Rattle.filing.proofs.FilingLaws.{admission-fits}
-use Rattle.cuts.proofs.Grammar.{kind-there, stands-by-kind}
+use Rattle.cuts.proofs.Grammar.{stands-by-kind}
 use Rattle.cuts.proofs.Cutting.{kindOfItem, itemsBegin, here-kind, item-stands}
 use Rattle.cuts.proofs.ByKind as by-kind
 use Rattle.sets.specs.Sets.{isSet, setsOf}
@@ -30,7 +29,7 @@ use Rattle.sets.specs.Search.{placeFrom}
 use Rattle.sets.proofs.SetLaws.{Among, nth-among, beginOr, begin-found}
 use Rattle.settings.specs.declared.Counted.{Counted}
 use Rattle.settings.specs.Settings.{verdictWith, countsOf, turnedAway, countedItem, countedSet, countedIn, counting}
-use Rattle.settings.specs.Chosen.{IsAdmission, AdmittedBy, ChosenSet, SomeChosen}
+use Rattle.settings.specs.Chosen.{IsAdmission, AdmittedBy, ChosenSet}
 use Rattle.settings.proofs.Covers.{clash}
 
 -- ---- a book that was admitted is accepted

@@ -1,39 +1,35 @@
 -- A derivative set of an accepted book: how large it is, what it adds to row 21 under each setting, and the verdicts. Assumes nothing.
 use Prim.Native.Nat.{ℕ, zero, suc, _+_, _-_, _*_, _≤_, _<_, _^_}
-use mathlib.Core.Path.{_≡_, refl, sym, _∙_, ap}
-use mathlib.Core.Bool.{Bool, true, false, cond, _&&_}
-use mathlib.Core.List.{List, [], _∷_, _++_, map}
+use mathlib.Core.Path.{_≡_, refl, _∙_, ap}
+use mathlib.Core.Bool.{Bool, true, false, cond}
+use mathlib.Core.List.{List, _∷_, _++_}
 use native.Mathlib.Omega.{arith}
 use native.Mathlib.Nat.{zero-add}
-use lib.Dec.{eqb}
 use lib.IntN.{pos}
 use lib.ListN.{length, drop, length-drop}
 use Rattle.rules.specs.declared.Bands.{Bands}
 use Rattle.rules.specs.declared.Entry.{Entry}
 use Rattle.rules.specs.declared.Sums.{Sums}
 use Rattle.rules.specs.Word.{word, bitOf}
-use Rattle.rules.specs.Book.{Head, DerivativeSet, Item, derivatives, Placed, total}
+use Rattle.rules.specs.Book.{DerivativeSet, Item, derivatives, Placed, total}
 use Rattle.rules.specs.Read.{headOf}
-use Rattle.rules.specs.Weighted.{weightedOf}
 use Rattle.rules.specs.Weigh.{sumBelow, gainIn, lossIn, addOnIn, uncoveredIn, writtenIn, coversIn, tallyOf, replacementOf, weightedIn}
-use Rattle.rules.specs.Rows.{sumOver, sumsOf, exposureRow}
-use Rattle.rules.specs.Ratio.{tier1Of, verdictOf}
-use Rattle.rules.specs.Filing.{Outcome, outcomeOf, accepted, verdictIn, filing}
-use Rattle.rules.proofs.Lists.{Every, total-le-all}
-use Rattle.laws.specs.Exposure.{exposureOf, CoversWithin}
-use Rattle.laws.specs.ReadAs.{ReadAs}
+use Rattle.rules.specs.Rows.{sumOver, exposureRow}
+use Rattle.rules.specs.Filing.{outcomeOf, accepted, verdictIn, filing}
+use Rattle.rules.proofs.Lists.{total-le-all}
+use Rattle.laws.specs.Exposure.{exposureOf}
 use Rattle.laws.proofs.Accepted.{Accepted, accepted-is}
 use Rattle.laws.proofs.Each.{every-first, every-append}
 use Rattle.laws.proofs.GoodHead.{good-head}
 use Rattle.laws.proofs.Settling.{all-within, book-within}
 use Rattle.laws.proofs.ExposureSum.{exposure-is-sum}
-use Rattle.laws.proofs.MemberBounds.{perWord, members-total}
+use Rattle.laws.proofs.MemberBounds.{members-total}
 use Rattle.laws.proofs.ItemBounds.{itemWeight, items-small}
 use Rattle.laws.proofs.ItemRows.{exposure-at-most}
 use Rattle.rules.proofs.Weighted.{at-most}
-use Rattle.cuts.proofs.Cutting.{ItemHere, StandsIn}
+use Rattle.cuts.proofs.Cutting.{ItemHere}
 use Rattle.other_marks.specs.Marked.{settings, bookWith, setWith}
-use Rattle.other_marks.specs.Claims.{SetAmong, LikeFiled}
+use Rattle.other_marks.specs.Claims.{LikeFiled}
 use Rattle.other_marks.proofs.Books.{sum-among, stands, begins-within, accepted-alike}
 use Rattle.derivatives.specs.declared.tally.Tally.{Tally}
 use Rattle.derivatives.specs.Gathered.{noTally, plusMembers, TallyRoomy, TallyFits}

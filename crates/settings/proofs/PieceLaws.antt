@@ -1,11 +1,10 @@
 -- The pieces of a set's exposure, and what they come to under each setting, by what the calls gave. Assumes nothing.
 use Prim.Native.Nat.{ℕ, _+_, _-_, _*_, _≤_, _^_}
-use mathlib.Core.Path.{_≡_, refl, sym, _∙_, ap}
-use mathlib.Core.Bool.{Bool, true, false, cond}
+use mathlib.Core.Path.{_≡_, refl}
+use mathlib.Core.Bool.{Bool, cond}
 use native.Mathlib.Omega.{arith}
 use lib.Dec.{eqb}
 use Rattle.rules.specs.Word.{bitOf, fieldOf, sizeOf}
-use Rattle.rules.specs.Weighted.{weightedOf}
 use Rattle.rules.specs.Read.{derivativeSetAt}
 use Rattle.rules.proofs.Weighted.{at-most}
 use Rattle.derivatives.specs.declared.read.SetWords.{SetWords}

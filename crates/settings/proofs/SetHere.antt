@@ -1,19 +1,19 @@
 -- A derivative set in the words that begin with its head: its members, its amounts, its marks, and how large its tally is. Assumes nothing.
 use Prim.Native.Nat.{ℕ, suc, _+_, _*_, _≤_, _<_, _^_}
-use mathlib.Core.Path.{_≡_, refl, sym, _∙_, ap}
-use mathlib.Core.List.{List, [], _∷_}
+use mathlib.Core.Path.{_≡_, refl}
+use mathlib.Core.List.{List}
 use native.Mathlib.Omega.{arith}
 use lib.ListN.{length}
 use Rattle.rules.specs.declared.Bands.{Bands}
-use Rattle.rules.specs.Word.{word, sizeOf, lossOf}
+use Rattle.rules.specs.Word.{word}
 use Rattle.rules.specs.Book.{Member, trade, written, basket, DerivativeSet, derivatives, total}
 use Rattle.rules.specs.Read.{tradeAt, writtenAt, basketAt, memberTurn, derivativeSetAt}
 use Rattle.rules.specs.Weigh.{lossIn, addOnIn, uncoveredIn}
 use Rattle.rules.proofs.Lists.{total-le-all}
 use Rattle.laws.proofs.FactorBounds.{loss-small}
-use Rattle.cuts.proofs.Chains.{Chain, Cut, sureRun, chain-onward, chain-run}
+use Rattle.cuts.proofs.Chains.{Chain, sureRun, chain-onward, chain-run}
 use Rattle.cuts.proofs.Grammar.{whole-within}
-use Rattle.cuts.proofs.Records.{NoneOf, isMember, MemberRead, member-made, member-over, member-onward, derivativeSetFaultAt, ItemRead, item-onward}
+use Rattle.cuts.proofs.Records.{MemberRead, member-made, member-over, member-onward, derivativeSetFaultAt, ItemRead, item-onward}
 use Rattle.other_marks.specs.Marked.{setWith}
 use Rattle.derivatives.specs.Words.{setWords, setOf}
 use Rattle.settings.specs.Members.{membersFrom}

@@ -1,5 +1,5 @@
 -- The members of a set, one after the other: with each the tally takes in what stands at its place, and all of them come to the same. Assumes nothing.
-use Prim.Native.Nat.{ℕ, suc, _+_, _*_, _≤_, _<_, _^_}
+use Prim.Native.Nat.{ℕ, suc, _+_, _≤_, _<_}
 use mathlib.Core.Path.{_≡_, refl, sym, _∙_, ap}
 use mathlib.Core.Bool.{Bool, true, false}
 use mathlib.Core.List.{List, [], _∷_}
@@ -11,22 +11,20 @@ use lib.ListN.{length}
 use Rattle.rules.specs.declared.Bands.{Bands}
 use Rattle.rules.specs.Word.{word, kindOf, sizeOf, namesIn}
 use Rattle.rules.specs.Book.{Cover, Member, trade, written, basket, total}
-use Rattle.rules.specs.Run.{Run}
 use Rattle.rules.specs.Faults.{writtenFault}
 use Rattle.rules.specs.Read.{coverTurn, tradeAt, writtenAt, basketAt, stands}
 use Rattle.rules.specs.Weigh.{writtenAddOn, basketAddOn}
 use Rattle.records.specs.Readable.{Readable}
-use Rattle.records.specs.Cause.{recordCause}
 use Rattle.baskets.specs.Reading.{basketCause}
 use Rattle.laws.proofs.Valid.{cause-none}
 use Rattle.cuts.proofs.Chains.{Cut, sureRun, chain-onward, chain-run}
 use Rattle.cuts.proofs.Grammar.{Whole, whole-within, stands-by-kind}
-use Rattle.cuts.proofs.Records.{NoneOf, isCover, CoverRead, cover-made, cover-over, cover-onward, isMember, MemberRead, writtenFaultAt, basketFaultAt}
+use Rattle.cuts.proofs.Records.{NoneOf, isCover, CoverRead, cover-made, cover-over, cover-onward, isMember, MemberRead, writtenFaultAt}
 use Rattle.derivatives.specs.declared.tally.Tally.{Tally}
 use Rattle.derivatives.specs.Gathered.{plusMember, plusWritten, plusBasket, plusMembers, TallyRoomy}
 use Rattle.settings.specs.declared.members.Upto.{Upto}
 use Rattle.settings.specs.declared.members.NextMember.the-variants.{Some, None}
-use Rattle.settings.specs.Members.{coversFrom, coveredFrom, SureCovers, membersFrom, tallyFrom, afterTrade, afterCredit, afterBasket, SureMembers, Moved}
+use Rattle.settings.specs.Members.{coversFrom, SureCovers, membersFrom, tallyFrom, afterTrade, afterCredit, afterBasket, SureMembers, Moved}
 use Rattle.settings.proofs.Ahead.{Ahead, members-ahead}
 use Rattle.settings.proofs.Covers.{clash}
 

@@ -19,7 +19,7 @@ exposed-requires : tie.Need-exposed-requires Inv-loop μ-loop
 exposed-requires c κs = c .before .before .pre .pieces
 
 add-verdict : tie.Need-add-verdict Inv-loop μ-loop
-add-verdict c = omega (arith, sum-fits _ _ _ (c .before .before .before .pre) (c .before .loop-test .taken) (c .exposed .ensures))
+add-verdict c = omega (arith, sum-fits _ _ _ (c .before .before .before .pre) (omega (arith, c .before .loop-test .taken)) (c .exposed .ensures))
 
 add-met : tie.Need-add-met Inv-loop μ-loop
 add-met c = omega (arith, c .one-if .ensures .1, few _ _ _ _ _ (c .before .before .before .before .loop .inv) .0)
@@ -36,10 +36,10 @@ loop-less c = omega (arith, c .before .before .before .before .before .loop-test
 loop-again : tie.Need-loop-again Inv-loop μ-loop
 loop-again c =
     let e = c .before .before .before .before .before .before .before in
-    counting-on _ _ _ _ _ (c .before .before .before .before .before .before .loop .inv) (c .before .before .before .before .before .loop-test .taken) (verdict-is (e .args .p) (e .args .others) (e .args .gain) (e .args .loss) (c .before .before .before .before .before .before .loop .m) (c .before .before .before .before .exposed .ensures) (c .before .before .before .verdict .ensures)) (c .before .before .one-if .ensures .0) (c .before .one-if2 .ensures .0) (c .one-if3 .ensures .0)
+    counting-on _ _ _ _ _ (c .before .before .before .before .before .before .loop .inv) (omega (arith, c .before .before .before .before .before .loop-test .taken)) (verdict-is (e .args .p) (e .args .others) (e .args .gain) (e .args .loss) (c .before .before .before .before .before .before .loop .m) (c .before .before .before .before .exposed .ensures) (c .before .before .before .verdict .ensures)) (c .before .before .one-if .ensures .0) (c .before .one-if2 .ensures .0) (c .one-if3 .ensures .0)
 
 returns : tie.Need-returns Inv-loop μ-loop
-returns c = counting-over _ _ _ _ _ (c .before .loop .inv) (c .loop-test .left)
+returns c = counting-over _ _ _ _ _ (c .before .loop .inv) (omega (arith, c .loop-test .left))
 
 pub count-each-spec : {M : Type 1} → statement M
 count-each-spec =
