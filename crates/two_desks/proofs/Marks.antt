@@ -14,7 +14,7 @@ use Rattle.cuts.specs.Words.{Shape}
 use Rattle.cuts.proofs.Shape.{names-shape}
 
 -- a word has at most six marks
-marks-most : (w : ℕ) → marksIn w ≤ 6
+pub marks-most : (w : ℕ) → marksIn w ≤ 6
 marks-most w = table-at-most 6 marksByKind refl (kindOf w)
 
 module _ {a b : ℕ} (m : MoreMarks a b) where
