@@ -36,7 +36,7 @@ use Rattle.derivatives.specs.Gathered.{noTally, plusMembers, TallyRoomy, TallyF
 use Rattle.settings.specs.declared.Counted.{Counted}
 use Rattle.settings.specs.declared.exposure.Pieces.{Pieces}
 use Rattle.settings.specs.Settings.{leading, howMany, countsOf, verdictWith}
-use Rattle.settings.specs.Members.{FromHead, tallyFrom, SureMembers}
+use Rattle.settings.specs.Members.{fromHead, tallyFrom, SureMembers}
 use Rattle.settings.specs.Pieces.{netIn, keptNetted, piecesOf, offsetsIn, exposedBy, verdictBy, PiecesFit, AllFit}
 use Rattle.settings.specs.Chosen.{ChosenSet}
 use Rattle.settings.proofs.SetHere.{SetHere, set-here, uncovered-within}
@@ -144,14 +144,14 @@ module _ (ws : List ℕ) (register : List Entry) (sums : Sums) (head : ℕ) (c :
         covered = omega (arith, f .weight);
       }
 
-  pub sure-members : SureMembers bands (drop head ws) FromHead
+  pub sure-members : SureMembers bands (drop head ws) fromHead
   sure-members = record {
     readable = record { within = here .four; short = omega (arith, length-drop head ws, short) };
     number = rw (here .members);
     roomy = rw (here .members) tally-room;
   }
 
-  pub tally-is : {t : Tally} → t ≡ tallyFrom bands (drop head ws) FromHead → t ≡ tallied bands (c .set)
+  pub tally-is : {t : Tally} → t ≡ tallyFrom bands (drop head ws) fromHead → t ≡ tallied bands (c .set)
   tally-is q = q ∙ rw (here .members) refl
 
   -- ---- what it adds, and what the others do

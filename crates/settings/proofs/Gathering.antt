@@ -21,7 +21,7 @@ use Rattle.derivatives.proofs.Layouts.{trade-laid, written-laid}
 use Rattle.settings.specs.declared.members.Upto.{Upto}
 use Rattle.settings.specs.declared.members.NextMember.{NextMember}
 use Rattle.settings.specs.declared.members.NextMember.the-variants.{Some, None}
-use Rattle.settings.specs.Members.{coversFrom, coveredFrom, FromHead, tallyFrom, afterTrade, afterCredit, afterBasket, SureMembers, Moved}
+use Rattle.settings.specs.Members.{coversFrom, coveredFrom, fromHead, tallyFrom, afterTrade, afterCredit, afterBasket, SureMembers, Moved}
 
 -- ---- a member that was read and added
 
@@ -53,10 +53,10 @@ module _ (ws : List ℕ) (at : ℕ) {r : BasketRead} (q : r ≡ basketRead ws at
 -- ---- the loop
 
 pub record Gathering (bands : Bands) (ws : List ℕ) (u : Upto) : Type 0 where
-  pub same : tallyFrom bands ws FromHead ≡ tallyFrom bands ws u
+  pub same : tallyFrom bands ws fromHead ≡ tallyFrom bands ws u
   pub sure : SureMembers bands ws u
 
-pub gathering-begins : (bands : Bands) (ws : List ℕ) → SureMembers bands ws FromHead → (u : Upto) → u ≡ FromHead → Gathering bands ws u
+pub gathering-begins : (bands : Bands) (ws : List ℕ) → SureMembers bands ws fromHead → (u : Upto) → u ≡ fromHead → Gathering bands ws u
 gathering-begins bands ws s u e = rw e (record { same = refl; sure = s })
 
 module _ (bands : Bands) (ws : List ℕ) (u : Upto) (g : Gathering bands ws u) {r : NextMember} (m : Moved bands ws u r) where
@@ -70,5 +70,5 @@ module _ (bands : Bands) (ws : List ℕ) (u : Upto) (g : Gathering bands ws u) {
     pub gathering-less : length ws - v .at < length ws - u .at
     gathering-less = omega (arith, on .1 .1, on .1 .0 .readable .within)
 
-  pub gathering-over : r ≡ None → u .tally ≡ tallyFrom bands ws FromHead
+  pub gathering-over : r ≡ None → u .tally ≡ tallyFrom bands ws fromHead
   gathering-over e = let o : Moved bands ws u None = rw e at m in sym (g .same ∙ o)

@@ -28,7 +28,7 @@ use Rattle.derivatives.specs.Gathered.{TallyFits}
 use Rattle.settings.specs.declared.Counted.{Counted}
 use Rattle.settings.specs.declared.exposure.Pieces.{Pieces}
 use Rattle.settings.specs.Settings.{countsOf, verdictWith}
-use Rattle.settings.specs.Members.{FromHead, tallyFrom, SureMembers}
+use Rattle.settings.specs.Members.{fromHead, tallyFrom, SureMembers}
 use Rattle.settings.specs.Pieces.{piecesOf, exposedBy, verdictBy, PiecesFit, AllFit}
 use Rattle.settings.specs.Chosen.{ChosenSet}
 use Rattle.settings.proofs.SetHere.{SetHere}
@@ -71,12 +71,12 @@ module _ (ws : List ℕ) (register : List Entry) (sums : Sums) (head : ℕ) (c :
           let size : date ≡ sizeOf (word ws 2) = omega (arith, dq, good-date .0, good-date .1) in
           bq ∙ ap bandsOf size ∙ rw d refl
 
-      pub members-sure : SureMembers b (partFrom ws head) FromHead
+      pub members-sure : SureMembers b (partFrom ws head) fromHead
       members-sure = rw (bands-are, part-is ws head) (sure-members ws register sums head c)
 
       -- ---- the tally
 
-      module _ {t : Tally} (tq : t ≡ tallyFrom b (partFrom ws head) FromHead) where
+      module _ {t : Tally} (tq : t ≡ tallyFrom b (partFrom ws head) fromHead) where
         tally-known : t ≡ tallied (headOf ws .bands) (c .set)
         tally-known = tally-is ws register sums head c (rw (← bands-are, ← part-is ws head) tq)
 

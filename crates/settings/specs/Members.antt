@@ -40,8 +40,8 @@ abbrev pub tallyFrom : Bands → List ℕ → Upto → Tally
 tallyFrom bands ws u = plusMembers bands (u .tally) (membersFrom ws (u .at) .records)
 
 -- behind the head and its three amounts, with nothing gathered
-abbrev pub FromHead : Upto
-FromHead = record { tally = noTally; at = 4 }
+abbrev pub fromHead : Upto
+fromHead = record { tally = noTally; at = 4 }
 
 -- ---- with the member that stands at its place
 

@@ -18,7 +18,7 @@ ghost use Rattle.rules.specs.Word.{sizeOf, word};
 ghost use Rattle.records.specs.Readable.{Readable};
 ghost use Rattle.baskets.specs.Reading.{basketCause};
 ghost use Rattle.derivatives.specs.Gathered.{TallyRoomy};
-ghost use Rattle.settings.specs.Members.{FromHead, Moved, SureCovers, SureMembers, afterBasket, afterCredit, afterTrade, coveredFrom, coversFrom, tallyFrom};
+ghost use Rattle.settings.specs.Members.{fromHead, Moved, SureCovers, SureMembers, afterBasket, afterCredit, afterTrade, coveredFrom, coversFrom, tallyFrom};
 
 // What the members before a place come to, and that place, which counts from the set's head.
 pub struct Upto {
@@ -123,8 +123,8 @@ fn next_member(part: &[u32], u: Upto, bands: Bands) -> NextMember
 
 // What all members of a set come to. The words begin with its head.
 pub fn tally_of(part: &[u32], bands: Bands) -> Tally
-    requires { ⌜ SureMembers bands (now part) FromHead ⌝ }
-    ensures { λ r. ⌜ r ≡ tallyFrom bands (now (part .entry)) FromHead ⌝ }
+    requires { ⌜ SureMembers bands (now part) fromHead ⌝ }
+    ensures { λ r. ⌜ r ≡ tallyFrom bands (now (part .entry)) fromHead ⌝ }
 {
     let mut u = Upto {
         tally: Tally::none(),
