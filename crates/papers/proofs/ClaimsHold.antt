@@ -24,10 +24,11 @@ use Rattle.other_marks.specs.Marked.{settings, bookWith}
 use Rattle.other_marks.proofs.Books.{accepted-alike, filed-is-one}
 use Rattle.sets.specs.Sets.{setsOf, showing}
 use Rattle.sets.proofs.SetLaws.{nth-among}
+use Rattle.sets.proofs.ClaimsHold.{told}
 use Rattle.settings.specs.Settings.{verdictWith, leading, howMany, countsOf, turnedAway, countedItem, counting}
 use Rattle.settings.proofs.ChosenLaws.{verdict-with}
 use Rattle.papers.specs.Claims.{LikeShown, AsShown, countFor, EverySetting, FiledCounted, SameVerdict, SumTo64}
-use Rattle.papers.proofs.Counted.{told, OneCounted, one-counted}
+use Rattle.papers.proofs.Counted.{OneCounted, one-counted}
 
 -- ---- beside a set that is shown
 

@@ -10,8 +10,8 @@ use Rattle.rules.specs.declared.Entry.{Entry}
 use Rattle.rules.specs.declared.Sums.{Sums}
 use Rattle.rules.specs.Read.{headOf, stands}
 use Rattle.rules.specs.Rows.{sumsOf}
-use Rattle.rules.specs.Filing.{Outcome, early, refused, accepted, admission, outcomeOf}
-use Rattle.laws.proofs.Accepted.{Numbered, numbered}
+use Rattle.rules.specs.Filing.{Outcome, early, refused, accepted, admission}
+use Rattle.laws.proofs.Accepted.{Numbered}
 use Rattle.laws.proofs.Records.{stands-is}
 use Rattle.reading.specs.declared.Admission.the-variants.{Admitted}
 use Rattle.cuts.proofs.Cutting.{itemsBegin}
@@ -20,15 +20,11 @@ use Rattle.sets.specs.declared.Shown.{Shown}
 use Rattle.sets.specs.Sets.{showing}
 use Rattle.sets.specs.Search.{placeFrom, foundAt}
 use Rattle.sets.proofs.SetLaws.{found-showing}
+use Rattle.sets.proofs.ClaimsHold.{told}
 use Rattle.settings.specs.declared.Counted.{Counted}
 use Rattle.settings.specs.Settings.{verdictWith, countsOf, counting}
 use Rattle.settings.specs.Chosen.{IsAdmission, ChosenSet}
 use Rattle.settings.proofs.AnswerLaws.{Found, found}
-
--- a book with some register, as far as it comes; no refusal has the number 0
-pub told : (ws : List ℕ) (entries : ℕ) → Numbered (admission ws entries)
-unfolding outcomeOf
-told ws entries = numbered ws 22 entries
 
 pub record OneCounted (ws : List ℕ) (ordinal : ℕ) (register : List Entry) : Type 0 where
   pub sums : Sums

@@ -20,11 +20,11 @@ use Rattle.sets.specs.Claims.{LikeFiling, AsFiled, SetsStretch, SetsApar
 use Rattle.sets.proofs.SetLaws.{set-kind, nth-among}
 
 -- a book with some register, as far as it comes; no refusal has the number 0
-told : (ws : List ℕ) (entries : ℕ) → Numbered (admission ws entries)
+pub told : (ws : List ℕ) (entries : ℕ) → Numbered (admission ws entries)
 unfolding outcomeOf
 told ws entries = numbered ws 22 entries
 
-sure : (ws : List ℕ) (entries : ℕ) {o : Outcome} → admission ws entries ≡ o → outcomeOf ws 22 entries ≡ o
+pub sure : (ws : List ℕ) (entries : ℕ) {o : Outcome} → admission ws entries ≡ o → outcomeOf ws 22 entries ≡ o
 unfolding outcomeOf
 sure ws entries e = e
 

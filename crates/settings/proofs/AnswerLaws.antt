@@ -26,6 +26,7 @@ use Rattle.cuts.proofs.Cutting.{kindOfItem, itemsBegin, here-kind, item-stands}
 use Rattle.cuts.proofs.ByKind as by-kind
 use Rattle.sets.specs.Sets.{isSet, setsOf}
 use Rattle.sets.specs.Search.{placeFrom}
+use Rattle.sets.proofs.ClaimsHold.{sure}
 use Rattle.sets.proofs.SetLaws.{Among, nth-among, beginOr, begin-found}
 use Rattle.settings.specs.declared.Counted.{Counted}
 use Rattle.settings.specs.Settings.{verdictWith, countsOf, turnedAway, countedItem, countedSet, countedIn, counting}
@@ -51,11 +52,6 @@ admitted-is ws register sums a = go (admission ws (length register)) refl a
     go (early number) e q = refused-not number 0 sums q
     go (refused number place) e q = refused-not number place sums q
     go (accepted items left) e q = record { items = items; left = left; accepts = e; sums-are = cc }
-
--- with 22 rows
-sure : (ws : List ℕ) (entries : ℕ) {o : Outcome} → admission ws entries ≡ o → outcomeOf ws 22 entries ≡ o
-unfolding outcomeOf
-sure ws entries e = e
 
 -- its sums fit the rows
 pub chosen-fits : (ws : List ℕ) (register : List Entry) (sums : Sums) (head : ℕ) → ChosenSet ws register sums head → SumsFit sums

@@ -11,13 +11,9 @@ use sets::search::search;
 use sets::sought::Sought;
 ghost use mathlib.Core.Path.{_≡_};
 ghost use mathlib.Core.List.{List};
-ghost use lib.ListN.{length};
 ghost use denote.Ref.{now};
 ghost use Rattle.rules.specs.declared.Entry as entry;
-ghost use Rattle.rules.specs.Read.{headOf};
-ghost use Rattle.rules.specs.Filing.{admission};
 ghost use Rattle.reading.specs.declared.Admission.the-variants.{Admitted};
-ghost use Rattle.filing.specs.Answers.{admissionOf};
 ghost use Rattle.settings.specs.Settings.{counting, turnedAway};
 ghost use Rattle.settings.specs.Chosen.{AdmittedBy, IsAdmission};
 
