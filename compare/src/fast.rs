@@ -3,11 +3,13 @@
 
 mod bands;
 mod baskets;
+mod credits;
 mod derivatives;
 mod financing;
 mod sets;
 mod settings;
 mod sums;
+mod trades;
 
 pub use sets::show;
 pub use settings::settings;
@@ -18,15 +20,24 @@ use derivatives::derivative_set;
 use financing::financing_set;
 use sums::Sums;
 
-/// Conversion figures by class; 0 stands for a class that is faulty.
-const CONVERSION: [u64; 16] = [
-    200, 500, 100, 1000, 1000, 500, 500, 200, 1000, 500, 100, 0, 0, 0, 0, 0,
+/// Conversion figures, each class one place later, as bits 4 to 7 count: at 0 is
+/// that of none, which lowers nothing, and 0 stands for a class that is faulty.
+const FIGURES: [u16; 17] = [
+    1000, 200, 500, 100, 1000, 1000, 500, 500, 200, 1000, 500, 100, 0, 0, 0, 0, 0,
 ];
 
-/// The same for the item committed to, one place later: none lowers nothing.
-const COMMITTED: [u64; 16] = [
-    1000, 200, 500, 100, 1000, 1000, 500, 500, 200, 1000, 500, 100, 0, 0, 0, 0,
-];
+/// The lower of both figures, by the lowest eight bits of an off-balance item.
+const CONVERSION: [u16; 256] = {
+    let mut lower = [0; 256];
+    let mut classes = 0;
+    while classes < 256 {
+        let own = FIGURES[(classes & 0xF) + 1];
+        let committed = FIGURES[classes >> 4];
+        lower[classes] = if own < committed { own } else { committed };
+        classes += 1;
+    }
+    lower
+};
 
 /// The sign of an amount; alone it is minus zero.
 const SIGN: u32 = 1 << 27;
@@ -99,6 +110,12 @@ fn signed(word: u32) -> i64 {
     (size ^ sign) - sign
 }
 
+/// An amount with a sign: neither of another kind nor minus zero.
+#[inline(always)]
+fn good_value(word: u32) -> bool {
+    (word ^ SIGN).wrapping_sub(1) < 2 * SIGN - 1
+}
+
 /// The amounts behind the word at `place`, all of kind 0, or cause 6.
 #[inline(always)]
 fn amounts<const COUNT: usize>(book: &[u32], place: usize) -> Outcome<&[u32; COUNT]> {
@@ -166,39 +183,90 @@ fn of_kind(book: &[u32], place: usize, kind: u32) -> Option<u32> {
     book.get(place).copied().filter(|word| word >> 28 == kind)
 }
 
-/// A run of assets; like items stand together, so their sums stay at hand.
-fn assets(book: &[u32], mut place: usize, sums: &mut Sums) -> Outcome<usize> {
-    let (mut total_carried, mut total_deducted) = (0, 0);
-    while let Some(word) = of_kind(book, place, 2) {
-        let &[carrying, provision, deducted] = amounts(book, place)?;
-        check(word & 0x0FFF_FFFE == 0, 7, place)?;
-        check((carrying | provision | deducted) < SIGN, 8, place)?;
-        check(provision + deducted <= carrying, 9, place)?;
-        // By the mark: of a fiduciary asset only what row 2 takes out again.
-        let values = [carrying - provision, deducted];
-        total_carried += u64::from(values[(word & 1) as usize]);
-        total_deducted += u64::from(deducted);
-        place += 4;
+/// Where a run of good records of this kind ended: at a word of another kind, or at
+/// the record that is not good, and then with its fault.
+#[inline(always)]
+fn run_end(
+    book: &[u32],
+    end: usize,
+    kind: u32,
+    fault: impl FnOnce(u32) -> Outcome<()>,
+) -> Outcome<usize> {
+    if let Some(word) = of_kind(book, end, kind) {
+        fault(word)?;
+        unreachable!("a record without a fault ends no run of its kind");
     }
-    sums.carried += total_carried;
+    Ok(end)
+}
+
+/// A run of assets; like items stand together, so their sums stay at hand.
+fn assets(book: &[u32], from: usize, sums: &mut Sums) -> Outcome<usize> {
+    let mut behind = &book[from..];
+    let (mut total_kept, mut total_deducted) = (0, 0);
+    while let Some((&asset, rest)) = behind.split_first_chunk() {
+        if !good_asset(asset) {
+            break;
+        }
+        let [word, carrying, provision, deducted] = asset;
+        // Of a fiduciary asset only what row 2 takes out again.
+        let kept = carrying - provision - deducted;
+        total_kept += u64::from(kept) * u64::from(!word & 1);
+        total_deducted += u64::from(deducted);
+        behind = rest;
+    }
+    sums.carried += total_kept + total_deducted;
     sums.deducted += total_deducted;
-    Ok(place)
+    let end = book.len() - behind.len();
+    run_end(book, end, 2, |word| asset_fault(book, end, word))
+}
+
+/// None of the causes that an asset can be faulty for, in few tests: what is below
+/// the sign is of kind 0 as well.
+#[inline(always)]
+fn good_asset([word, carrying, provision, deducted]: [u32; 4]) -> bool {
+    word >> 1 == 2 << 27
+        && (carrying | provision | deducted) < SIGN
+        && provision + deducted <= carrying
+}
+
+/// Why an asset is not good.
+#[cold]
+fn asset_fault(book: &[u32], place: usize, word: u32) -> Outcome<()> {
+    let &[carrying, provision, deducted] = amounts(book, place)?;
+    check(word & 0x0FFF_FFFE == 0, 7, place)?;
+    check((carrying | provision | deducted) < SIGN, 8, place)?;
+    check(provision + deducted <= carrying, 9, place)
 }
 
 /// A run of off-balance items.
-fn off_balance(book: &[u32], mut place: usize, sums: &mut Sums) -> Outcome<usize> {
+fn off_balance(book: &[u32], from: usize, sums: &mut Sums) -> Outcome<usize> {
+    let mut behind = &book[from..];
     let (mut total, mut converted) = (0, 0);
-    while let Some(word) = of_kind(book, place, 10) {
-        let &[notional] = amounts(book, place)?;
-        let own = CONVERSION[(word & 0xF) as usize];
-        let figure = own.min(COMMITTED[(word >> 4 & 0xF) as usize]);
-        check(word & 0x0FFF_FF00 == 0 && figure != 0, 7, place)?;
-        check(notional < SIGN, 8, place)?;
+    while let Some((&[word, notional], rest)) = behind.split_first_chunk() {
+        let figure = conversion(word);
+        if !(word >> 8 == 10 << 20 && notional < SIGN && figure != 0) {
+            break;
+        }
         total += u64::from(notional);
         converted += figure * u64::from(notional);
-        place += 2;
+        behind = rest;
     }
     sums.off_balance += total;
     sums.converted += converted;
-    Ok(place)
+    let end = book.len() - behind.len();
+    run_end(book, end, 10, |word| off_balance_fault(book, end, word))
+}
+
+/// Per thousand; 0 where a class is faulty.
+#[inline(always)]
+fn conversion(word: u32) -> u64 {
+    u64::from(CONVERSION[(word & 0xFF) as usize])
+}
+
+/// Why an off-balance item is not good.
+#[cold]
+fn off_balance_fault(book: &[u32], place: usize, word: u32) -> Outcome<()> {
+    let &[notional] = amounts(book, place)?;
+    check(word & 0x0FFF_FF00 == 0 && conversion(word) != 0, 7, place)?;
+    check(notional < SIGN, 8, place)
 }

@@ -7,7 +7,7 @@ use crate::samples::SAMPLE_DATE;
 pub type Item = fn(&mut Vec<u32>, &mut Random);
 
 /// Books, their items, and the words for each protection if there is any.
-pub const BOOKS: [(&str, Item, Option<usize>); 8] = [
+pub const BOOKS: [(&str, Item, Option<usize>); 9] = [
     ("assets", asset, None),
     ("netted derivatives", netted_set, None),
     ("netted, N = G", gains_alone, None),
@@ -16,6 +16,7 @@ pub const BOOKS: [(&str, Item, Option<usize>); 8] = [
     ("baskets", basket_set, None),
     ("financing", financing_set, None),
     ("off-balance", off_balance, None),
+    ("mixed", mixed, Some(256)),
 ];
 
 /// A book of as many items as fit into `size` words.
@@ -166,4 +167,19 @@ pub fn financing_trade(words: &mut Vec<u32>, random: &mut Random, days: u32) {
 pub fn off_balance(words: &mut Vec<u32>, random: &mut Random) {
     let payload = random.below(11) | random.below(12) << 4;
     words.extend([word(10, payload), random.below(1 << 24)]);
+}
+
+/// All kinds of items in turn, as a bank's book has them.
+fn mixed(words: &mut Vec<u32>, random: &mut Random) {
+    for item in [
+        asset,
+        netted_set,
+        off_balance,
+        covered_set,
+        financing_set,
+        asset,
+        basket_set,
+    ] {
+        item(words, random);
+    }
 }

@@ -5,8 +5,7 @@ use std::hint::black_box;
 use std::slice;
 
 use super::items::{
-    any_trade, asset, basket_set, book, covered_set, fill, financing_set, financing_trade, head,
-    netted_set, off_balance, Item, BOOKS,
+    any_trade, asset, book, fill, financing_trade, head, netted_set, off_balance, Item, BOOKS,
 };
 use super::{time, Timing, REPETITIONS};
 use crate::generate::{sets_in, word, Random};
@@ -14,8 +13,7 @@ use crate::library;
 use crate::model::{kinds, Entry, LONGEST_BOOK, ROWS};
 
 /// Further books of one sort of items, as those of the other table are.
-const FURTHER: [(&str, Item, Option<usize>); 6] = [
-    ("mixed", mixed, Some(256)),
+const FURTHER: [(&str, Item, Option<usize>); 5] = [
     ("assets, a commitment in 256 words", rare_commitment, None),
     (
         "assets, a commitment in 64 words",
@@ -100,21 +98,6 @@ pub fn print_beside_filing(
         called.noise(),
         filed.noise(),
     );
-}
-
-/// All kinds of items in turn.
-fn mixed(words: &mut Vec<u32>, random: &mut Random) {
-    for item in [
-        asset,
-        netted_set,
-        off_balance,
-        covered_set,
-        financing_set,
-        asset,
-        basket_set,
-    ] {
-        item(words, random);
-    }
 }
 
 /// Assets, so that about this many words are filled, and another item: a block of
