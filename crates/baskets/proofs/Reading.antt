@@ -6,7 +6,7 @@ use mathlib.Core.List.{List, [], _∷_, _++_, map}
 use native.Mathlib.Omega.{arith}
 use borrow.Author.Tests.{lt-leb, ltb-false}
 use lib.ListN.{length, take, drop, getD, length-drop}
-use lib.Seq.{take-suc, drop-cons, getD-drop}
+use lib.Seq.{take-suc, take-take, drop-cons, getD-drop}
 use Rattle.rules.specs.Word.{word, sizeOf, nthIn, namesIn}
 use Rattle.rules.specs.Faults.{cause, anyOf, basketFault}
 use Rattle.rules.specs.Factors.{creditFactor}
@@ -27,10 +27,13 @@ use Rattle.baskets.proofs.Causes.{any-no-amount, any-faulty-amount, any
 
 -- ---- its words
 
-module _ (ws : List ℕ) (at : ℕ) where
-  pub words-are : (n : ℕ) → n ≡ namesIn (word ws at) → {g : Grades} → g ≡ gradesOf (take (at + 3 + n - (at + 3)) (drop (at + 3) ws))
-      → record { head = word ws at; value = word ws (at + 1); notional = word ws (at + 2); grades = g } ≡ basketWords ws at
-  words-are n q gq = let count : at + 3 + n - (at + 3) ≡ namesIn (word ws at) = omega arith in rw (gq, count)
+-- those looked at behind the amounts begin with the grades
+module _ (ws : List ℕ) (at n many : ℕ) where
+  pub words-are : n ≡ namesIn (word ws at) → n ≤ many → {g : Grades} → g ≡ gradesOf (take n (take (at + 3 + many - (at + 3)) (drop (at + 3) ws)))
+      → record { head = word ws at; value = word ws (at + 1); notional = word ws (at + 2); all = g .all; failing = g .failing } ≡ basketWords ws at
+  words-are q l gq =
+      let count : at + 3 + many - (at + 3) ≡ many = omega arith in
+      rw (gq, count, take-take n many (drop (at + 3) ws) l, q)
 
 -- ---- the cause 6: what `lacks` looks at from the last word on, the pass over the words sees from the first
 
@@ -90,11 +93,11 @@ add-on-is ws at e = ap (λ (b : Bool). creditFactor b * sizeOf (word ws (at + 2)
 -- ---- as its set takes it in
 
 module _ (ws : List ℕ) (at n : ℕ) (q : n ≡ namesIn (word ws at)) where
-  pub read-short : length ws ≤ at + (n + 2) → Refused 6 ≡ basketRead ws at
+  pub read-short : length ws < at + (n + 3) → Refused 6 ≡ basketRead ws at
   unfolding basketCause
   read-short h = simp (← lacking-short ws at 0 (namesIn (word ws at) + 2) (omega arith) (omega arith))
 
-  module _ (h : at + (n + 2) < length ws) {b : BasketWords} (bq : b ≡ basketWords ws at) {f : ℕ} (fq : f ≡ causeOf b) where
+  module _ (h : at + (n + 3) ≤ length ws) {b : BasketWords} (bq : b ≡ basketWords ws at) {f : ℕ} (fq : f ≡ causeOf b) where
     here : f ≡ basketCause ws at
     here = fq ∙ ap causeOf bq ∙ cause-is ws at (omega arith)
 
@@ -105,10 +108,10 @@ module _ (ws : List ℕ) (at n : ℕ) (q : n ≡ namesIn (word ws at)) where
         go zero k = absurd (k refl)
         go (suc g) k = refl
 
-    pub read-whole : f ≡ 0 → {a : ℕ} → a ≡ addOnOf b → Whole (b .value) a (at + (n + 3)) ≡ basketRead ws at
+    pub read-whole : f ≡ 0 → {a : ℕ} → a ≡ addOnOf b → {next : ℕ} → next ≡ at + (n + 3) → Whole (b .value) a next ≡ basketRead ws at
     unfolding basketCause
-    read-whole z aq =
-        rw (bq, q)
+    read-whole z aq nq =
+        rw (nq, bq, q)
         (ap (λ (a : ℕ). Whole (word ws (at + 1)) a (at + (namesIn (word ws at) + 3))) (aq ∙ ap addOnOf bq ∙ add-on-is ws at (fault-none ws at (sym here ∙ z)))
         ∙ ap (λ (x : ℕ). readBy x ws at) (sym z ∙ here))
 

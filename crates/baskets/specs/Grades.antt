@@ -1,5 +1,5 @@
 -- What the words of a basket's grades come to, as one pass over them gathers it. Assumes nothing.
-use Prim.Native.Nat.{ℕ, _+_}
+use Prim.Native.Nat.{ℕ, _+_, min, max}
 use mathlib.Core.Bool.{Bool, not, cond}
 use mathlib.Core.List.{List, [], _∷_, map}
 use lib.Bits.{bitOr}
@@ -32,3 +32,11 @@ plusGrades g ws = record { all = bitsWith (g .all) ws; failing = g .failing + co
 
 abbrev pub gradesOf : List ℕ → Grades
 gradesOf ws = record { all = bitsWith 0 ws; failing = countAbove lastQualifying (map sizeOf ws) }
+
+-- how many of the words left behind the amounts are looked at: where so many are left, as many as a basket may have names
+abbrev pub lookedAt : ℕ → ℕ → ℕ
+lookedAt names left = min left (max names 32)
+
+-- the word at a place, counted as 0 behind the last name
+abbrev pub countedAt : ℕ → ℕ → ℕ → ℕ
+countedAt names i w = cond (ltb i names) w 0

@@ -20,16 +20,15 @@ ghost use Rattle.baskets.specs.Words.{causeOf};
 pub fn basket_fault(b: BasketWords) -> u32
     ensures { λ r. ⌜ r ≡ causeOf b ⌝ }
 {
-    let g = b.grades;
     let others = either(
         kind(b.value) != kinds::AMOUNT,
         kind(b.notional) != kinds::AMOUNT,
     );
     let signs = either(minus_zero(b.value), faulty_amount(b.notional));
-    let lacking = either(others, kind(g.all) != kinds::AMOUNT);
+    let lacking = either(others, kind(b.all) != kinds::AMOUNT);
     let bits = payload(b.head) >= payloads::BASKET_END;
-    let amounts = either(signs, faulty_amount(g.all));
-    let range = either(names_faulty(b.head), payload(g.all) > limits::GRADE);
+    let amounts = either(signs, faulty_amount(b.all));
+    let range = either(names_faulty(b.head), payload(b.all) > limits::GRADE);
     cause(
         causes::WORDS_LACKING,
         lacking,

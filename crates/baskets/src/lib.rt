@@ -3,7 +3,6 @@ use crate::addon::basket_add_on;
 use crate::faults::basket_fault;
 use crate::read::basket_words;
 use crate::read::names_in;
-use rules::amounts;
 use rules::causes;
 use rules::lengths;
 ghost use mathlib.Core.Path.{_≡_};
@@ -33,7 +32,8 @@ pub fn basket_at(part: &[u32], at: usize) -> BasketRead
     ensures { λ r. ⌜ r ≡ basketRead (now (part .entry)) at ⌝ }
 {
     let names = names_in(part[at]);
-    if part.len() <= at + (names + amounts::BASKET) {
+    let next = at + lengths::BASKET + names;
+    if part.len() < next {
         return BasketRead::Refused(causes::WORDS_LACKING);
     }
     let b = basket_words(part, at);
@@ -44,6 +44,6 @@ pub fn basket_at(part: &[u32], at: usize) -> BasketRead
     BasketRead::Whole {
         value: b.value,
         add_on: basket_add_on(b),
-        next: at + (names + lengths::BASKET),
+        next: next,
     }
 }

@@ -1,4 +1,3 @@
-pub mod Below
 pub mod Periods
 pub mod Months
 pub mod Years

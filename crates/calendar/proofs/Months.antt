@@ -5,7 +5,7 @@ use mathlib.Core.Bool.{true}
 use native.Mathlib.Omega.{arith}
 use lib.ListN.{getD}
 use Rattle.rules.specs.Calendar.{Within, months, daysOf, after}
-use Rattle.calendar.proofs.Below.{all, agree, each, below}
+use Rattle.rules.proofs.Below.{all, agree, each, below}
 
 abbrev pub monthOf : (p month : ℕ) → ℕ
 monthOf p month = getD (months p) (month - 1) 0

@@ -6,7 +6,7 @@ use native.Mathlib.Omega.{arith}
 use lib.Dec.{eqb}
 use borrow.Author.Tests.{eqb-true, eqb-false}
 use Rattle.rules.specs.Calendar.{leapDays, yearDays, daysOf, dateIn, dateOf, lastDate}
-use Rattle.calendar.proofs.Below.{all, below}
+use Rattle.rules.proofs.Below.{all, below}
 use Rattle.calendar.proofs.Periods.{found}
 use Rattle.calendar.proofs.Months.{past}
 

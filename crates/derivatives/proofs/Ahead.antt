@@ -14,9 +14,9 @@ use Rattle.rules.specs.Register.{drawsFrom, drawsOf}
 use Rattle.rules.specs.Weigh.{writtenAddOn}
 use Rattle.rules.proofs.Runs.{run-on}
 use Rattle.laws.proofs.MemberBounds.{perWord, coverWeight, fine-cover, memberWeight, fine-member}
-use Rattle.derivatives.specs.declared.tally.Tally.{Tally}
+use Rattle.weighing.specs.declared.tally.Tally.{Tally}
 use Rattle.derivatives.specs.declared.covers.OpenCredit.{OpenCredit}
-use Rattle.derivatives.specs.Gathered.{plusMember}
+use Rattle.weighing.specs.Gathered.{plusMember}
 use Rattle.derivatives.specs.Ahead.{gathered, refused, endsWith, after, membersAhead, fromMember, tallyWith, coversBy, coversAhead, fromCover, drawHere, plusCover}
 
 module _ (bands : Bands) (ws : List ℕ) (begin : ℕ) where

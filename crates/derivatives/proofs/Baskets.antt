@@ -20,11 +20,11 @@ use Rattle.baskets.specs.declared.BasketRead.{BasketRead}
 use Rattle.baskets.specs.declared.BasketRead.the-variants.{Whole, Refused}
 use Rattle.baskets.specs.Reading.{basketFaultAt, basketCause, basketRead}
 use Rattle.baskets.proofs.Reading.{Told, told}
-use Rattle.derivatives.specs.declared.tally.Tally.{Tally}
+use Rattle.weighing.specs.declared.tally.Tally.{Tally}
 use Rattle.derivatives.specs.declared.covers.OpenCredit.{OpenCredit}
 use Rattle.derivatives.specs.declared.members.MemberStep.the-variants.{Next}
 use Rattle.derivatives.specs.declared.members.MemberStep.the-variants as step
-use Rattle.derivatives.specs.Gathered.{plusBasket, TallyRoomy}
+use Rattle.weighing.specs.Gathered.{plusBasket, TallyRoomy}
 use Rattle.derivatives.specs.Ahead.{noCredit, Standing, MemberRead}
 use Rattle.derivatives.proofs.Turns.{tally-roomy, head-there, faulty, joins}
 

@@ -16,15 +16,15 @@ use Rattle.records.specs.Readable.{Readable}
 use Rattle.records.proofs.Words.{whole, record-faulty, record-good}
 use Rattle.laws.proofs.Records.{stands-is, amounts-at}
 use Rattle.laws.proofs.FactorBounds.{gain-small, loss-small, written-add-on}
-use Rattle.derivatives.specs.declared.tally.Tally.{Tally}
+use Rattle.weighing.specs.declared.tally.Tally.{Tally}
 use Rattle.derivatives.specs.declared.covers.OpenCredit.{OpenCredit}
-use Rattle.derivatives.specs.declared.read.WrittenWords.{WrittenWords}
-use Rattle.derivatives.specs.declared.read.CoverWords.{CoverWords}
+use Rattle.weighing.specs.declared.read.WrittenWords.{WrittenWords}
+use Rattle.weighing.specs.declared.read.CoverWords.{CoverWords}
 use Rattle.derivatives.specs.declared.set.OpenSet.{OpenSet}
-use Rattle.derivatives.specs.Words.{writtenWords, writtenOf, coverWords, coverFaultOf, coverCause}
-use Rattle.derivatives.specs.Gathered.{plusWritten, TallyRoomy}
+use Rattle.weighing.specs.Words.{writtenWords, writtenOf, coverWords, coverFaultOf, coverCause}
+use Rattle.weighing.specs.Gathered.{plusWritten, TallyRoomy}
 use Rattle.derivatives.specs.Ahead.{refused, endsWith, after, fromMember, fromCover, setAhead, tallyWith, drawOf, drawHere, plusCover, TallyUpTo, OpenIn, closedTally, SoundSet}
-use Rattle.derivatives.proofs.Layouts.{written-laid}
+use Rattle.weighing.proofs.Layouts.{written-laid}
 use Rattle.derivatives.proofs.Turns.{tally-roomy}
 use Rattle.derivatives.proofs.Ahead.{cover-over, cover-bad, cover-more}
 

@@ -1,10 +1,6 @@
-pub mod Truth
-pub mod Layouts
-pub mod AddOns
-pub mod SetRows
-pub mod Entry
 pub mod Ahead
 pub mod Turns
+pub mod TradeRuns
 pub mod Covering
 pub mod Baskets
 pub mod Stretching

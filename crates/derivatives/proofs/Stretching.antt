@@ -6,7 +6,7 @@ use native.Mathlib.Omega.{arith}
 use lib.ListN.{length}
 use Rattle.rules.specs.declared.Bands.{Bands}
 use Rattle.rules.specs.declared.Draw.{Draw}
-use Rattle.derivatives.specs.declared.tally.Tally.{Tally}
+use Rattle.weighing.specs.declared.tally.Tally.{Tally}
 use Rattle.derivatives.specs.declared.set.OpenSet.{OpenSet}
 use Rattle.derivatives.specs.declared.members.MemberStep.{MemberStep}
 use Rattle.derivatives.specs.declared.members.MemberStep.the-variants.{Next, Cover, End, Refused}

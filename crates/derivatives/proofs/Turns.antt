@@ -22,15 +22,15 @@ use Rattle.laws.proofs.Valid.{cause-none}
 use Rattle.laws.proofs.Records.{stands-is, amounts-at}
 use Rattle.laws.proofs.FactorBounds.{loss-small}
 use Rattle.laws.proofs.MemberBounds.{perWord, memberWeight, fine-member}
-use Rattle.derivatives.specs.declared.read.TradeWords.{TradeWords}
-use Rattle.derivatives.specs.declared.read.WrittenWords.{WrittenWords}
-use Rattle.derivatives.specs.declared.tally.Tally.{Tally}
+use Rattle.weighing.specs.declared.read.TradeWords.{TradeWords}
+use Rattle.weighing.specs.declared.read.WrittenWords.{WrittenWords}
+use Rattle.weighing.specs.declared.tally.Tally.{Tally}
 use Rattle.derivatives.specs.declared.covers.OpenCredit.{OpenCredit}
 use Rattle.derivatives.specs.declared.members.MemberStep.the-variants.{Next, End, Refused}
-use Rattle.derivatives.specs.Words.{tradeWords, tradeOf, tradeFaultOf, tradeCause, writtenWords, writtenFaultOf, writtenCause}
-use Rattle.derivatives.specs.Gathered.{plusMember, TallyRoomy}
+use Rattle.weighing.specs.Words.{tradeWords, tradeOf, tradeFaultOf, tradeCause, writtenWords, writtenFaultOf, writtenCause}
+use Rattle.weighing.specs.Gathered.{plusMember, TallyRoomy}
 use Rattle.derivatives.specs.Ahead.{setAhead, noCredit, TallyUpTo, Standing, MemberRead}
-use Rattle.derivatives.proofs.Layouts.{trade-laid}
+use Rattle.weighing.proofs.Layouts.{trade-laid}
 use Rattle.derivatives.proofs.Ahead.{member-bad, member-more, member-opens}
 
 -- ---- how large a tally is

@@ -14,10 +14,11 @@ use Rattle.rules.specs.Run.{Run, runFrom}
 use Rattle.rules.specs.Read.{stands, coverTurn, writtenAt, memberTurn}
 use Rattle.rules.specs.Register.{drawsFrom, drawsOf}
 use Rattle.records.specs.Readable.{Readable}
-use Rattle.derivatives.specs.declared.tally.Tally.{Tally}
+use Rattle.weighing.specs.declared.tally.Tally.{Tally}
 use Rattle.derivatives.specs.declared.covers.OpenCredit.{OpenCredit}
-use Rattle.derivatives.specs.declared.read.WrittenWords.{WrittenWords}
-use Rattle.derivatives.specs.declared.read.CoverWords.{CoverWords}
+use Rattle.weighing.specs.declared.read.WrittenWords.{WrittenWords}
+use Rattle.weighing.specs.declared.read.CoverWords.{CoverWords}
+use Rattle.derivatives.specs.declared.trades.TradeRun.{TradeRun}
 use Rattle.derivatives.specs.declared.set.OpenSet.{OpenSet}
 use Rattle.derivatives.specs.declared.set.Weighed.{Weighed}
 use Rattle.derivatives.specs.declared.set.Weighed.the-variants.{Cover, Whole, Refused}
@@ -28,8 +29,8 @@ use Rattle.derivatives.specs.declared.members.BasketStep.the-variants as
 use Rattle.derivatives.specs.declared.members.MemberStep.{MemberStep}
 use Rattle.derivatives.specs.declared.members.MemberStep.the-variants.{Next, End}
 use Rattle.derivatives.specs.declared.members.MemberStep.the-variants as step
-use Rattle.derivatives.specs.Words.{writtenWords, coverWords, writtenOf, coverOf}
-use Rattle.derivatives.specs.Gathered.{noTally, plusMembers, plusWritten}
+use Rattle.weighing.specs.Words.{writtenWords, coverWords, writtenOf, coverOf, soundTrade}
+use Rattle.weighing.specs.Gathered.{noTally, plusMembers, plusWritten}
 
 -- ---- what lies ahead
 
@@ -160,6 +161,13 @@ SoundStep ws at (step.Refused number place) = place ≤ length ws
 -- what stood where a member was due, wherever the set begins
 abbrev pub MemberRead : Bands → List ℕ → (at : ℕ) → Tally → MemberStep → Type 0
 MemberRead bands ws at t r = ((begin : ℕ) → fromMember bands ws begin t at ≡ stepAhead bands ws begin at r) × SoundStep ws at r
+
+-- a run of trades from a place on, up to where no trade without a fault stands
+pub record TradesRead (bands : Bands) (ws : List ℕ) (from : ℕ) (t : Tally) (r : TradeRun) : Type 0 where
+  pub same : (begin : ℕ) → fromMember bands ws begin t from ≡ fromMember bands ws begin (r .tally) (r .next)
+  pub standing : Standing ws (r .next) (r .tally)
+  pub reached : from ≤ r .next
+  pub over : soundTrade ws (r .next) ≡ false
 
 -- a stretch of them from a place on
 abbrev pub stretchAhead : Bands → List ℕ → (begin : ℕ) → Stretch → SetAhead

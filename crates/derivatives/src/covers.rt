@@ -1,8 +1,4 @@
 // The written credit whose covers are being read, and the next of them.
-use crate::faults::cover_fault;
-use crate::read::CoverWords;
-use crate::read::WrittenWords;
-use crate::read::cover_words;
 use records::presence::lacking;
 use records::presence::standing;
 use rules::Draw;
@@ -10,6 +6,10 @@ use rules::amounts;
 use rules::causes;
 use rules::kinds;
 use rules::payloads;
+use weighing::faults::cover_fault;
+use weighing::read::CoverWords;
+use weighing::read::WrittenWords;
+use weighing::read::cover_words;
 use words::amount::size;
 use words::numbers::short_of;
 use words::numbers::wide;
@@ -20,7 +20,7 @@ ghost use Prim.Native.Nat.{suc, _≤_, _^_};
 ghost use denote.Ref.{now};
 ghost use Rattle.rules.specs.Read.{stands};
 ghost use Rattle.records.specs.Readable.{Readable};
-ghost use Rattle.derivatives.specs.Words.{coverCause};
+ghost use Rattle.weighing.specs.Words.{coverCause};
 ghost use Rattle.derivatives.specs.Ahead.{drawOf, noCredit, plusCover};
 
 // The written credit whose covers are being read, if there is one and so covers are allowed: where its record stands, what its covers so

@@ -1,30 +1,7 @@
 // Derivative sets (document 01, records 4 to 7, "Weighing a set" and the rows 1 and 4 to 10; request A.3, record 11). A set is read up to its
 // next cover, so that whoever holds the register can draw each cover as it is read.
-use crate::faults::set_fault;
-use crate::read::set_words;
-use records::presence::lacking;
-use rules::amounts;
-use rules::causes;
-ghost use mathlib.Core.Path.{_≡_};
-ghost use denote.Ref.{now};
-ghost use Rattle.records.specs.Readable.{Readable};
-ghost use Rattle.derivatives.specs.Words.{setCause};
 
 pub mod covers;
-mod faults;
 mod members;
-pub mod read;
-pub mod rows;
 pub mod set;
-pub mod tally;
-
-// The number of the cause for which the head of a set is faulty, or 0. The words begin with it.
-pub fn set_cause(part: &[u32]) -> u32
-    requires { ⌜ Readable 1 (now part) ⌝ }
-    ensures { λ r. ⌜ r ≡ setCause (now (part .entry)) ⌝ }
-{
-    if lacking(part, 0, amounts::DERIVATIVE_SET) {
-        return causes::WORDS_LACKING;
-    }
-    set_fault(set_words(part))
-}
+mod trades;

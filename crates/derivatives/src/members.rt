@@ -4,34 +4,33 @@ use crate::covers::cover_cause;
 use crate::covers::cover_due;
 use crate::covers::draw_here;
 use crate::covers::with_cover;
-use crate::faults::trade_fault;
-use crate::faults::written_fault;
-use crate::read::cover_words;
-use crate::read::trade_words;
-use crate::read::written_words;
 use crate::set::OpenSet;
-use crate::tally::Tally;
+use crate::trades::trades;
 use baskets::BasketRead;
 use baskets::basket_at;
-use records::presence::lacking;
+use records::presence::end_of;
 use records::presence::standing;
 use rules::Bands;
 use rules::Draw;
 use rules::amounts;
-use rules::causes;
 use rules::kinds;
 use rules::lengths;
+use weighing::faults::trade_cause;
+use weighing::faults::written_cause;
+use weighing::good::good_cover;
+use weighing::good::good_written;
+use weighing::read::cover_words;
+use weighing::read::written_words;
+use weighing::tally::Tally;
 use words::amount::size;
 use words::parts::kind;
 ghost use mathlib.Core.Path.{_≡_};
 ghost use mathlib.Core.Bool.{true};
-ghost use Prim.Native.Nat.{suc, _+_, _≤_, _^_};
+ghost use Prim.Native.Nat.{_+_, _≤_, _^_};
 ghost use lib.ListN.{length};
 ghost use denote.Ref.{now};
 ghost use Rattle.rules.specs.declared.Bands as bands;
 ghost use Rattle.rules.specs.Read.{stands};
-ghost use Rattle.records.specs.Readable.{Readable};
-ghost use Rattle.derivatives.specs.Words.{tradeCause, writtenCause};
 ghost use Rattle.derivatives.specs.Ahead.{BasketTaken, MemberRead, SoundSet, SoundStep, Standing, closedTally, fromCover, setAhead, stepAhead};
 
 // The set with one member more; the next cover, and the set behind it; neither a trade nor a written credit, and the tally of all before; or
@@ -65,10 +64,9 @@ fn cover(part: &[u32], begin: usize, o: OpenSet) -> MemberStep
     let at = o.at;
     let t = o.tally;
     let c = o.credit;
-    let cause = cover_cause(part, at);
-    if cause != causes::NONE {
+    if !good_cover(part, at, end_of(part.len(), amounts::COVER)) {
         return MemberStep::Refused {
-            number: cause,
+            number: cover_cause(part, at),
             place: at,
         };
     }
@@ -110,7 +108,7 @@ fn member_at(part: &[u32], at: usize, t: Tally, bands: Bands) -> MemberStep
         return MemberStep::End(t);
     }
     let k = kind(part[at]);
-    // Asked in this order the loop keeps its registers: the other way round netted sets take 4% longer (docs/BENCHMARKS.md, A.1).
+    // In this order since each trade came through here, when netted sets took 4% longer the other way round (docs/BENCHMARKS.md, A.1).
     if k == kinds::WRITTEN_CREDIT {
         return written(part, at, t);
     }
@@ -120,46 +118,26 @@ fn member_at(part: &[u32], at: usize, t: Tally, bands: Bands) -> MemberStep
     MemberStep::End(t)
 }
 
-// The number of the cause for which the trade at a place is faulty, or 0.
-fn trade_cause(part: &[u32], at: usize) -> u32
-    requires { ⌜ Readable (suc at) (now part) ⌝ }
-    ensures { λ r. ⌜ r ≡ tradeCause (now (part .entry)) at ⌝ }
-{
-    if lacking(part, at, amounts::TRADE) {
-        return causes::WORDS_LACKING;
-    }
-    trade_fault(trade_words(part, at))
-}
-
-// Kind 5.
+// Kind 5, which mostly stands in runs. Where the run does not move, its first trade has a fault.
 fn trade(part: &[u32], at: usize, t: Tally, bands: Bands) -> MemberStep
     requires { ⌜ Standing (now part) at t × (stands 5 (now part) at ≡ true) ⌝ }
     ensures { λ r. ⌜ MemberRead bands (now (part .entry)) at t r ⌝ }
 {
-    let cause = trade_cause(part, at);
-    if cause != causes::NONE {
+    let run = trades(part, at, t, bands);
+    let next = run.next;
+    if next == at {
         return MemberStep::Refused {
-            number: cause,
+            number: trade_cause(part, at),
             place: at,
         };
     }
-    let next = OpenSet {
-        at: at + lengths::TRADE,
-        tally: t.add_trade(bands, trade_words(part, at)),
+    let tally = run.tally;
+    let behind = OpenSet {
+        at: next,
+        tally: tally,
         credit: OpenCredit::none(),
     };
-    MemberStep::Next(next)
-}
-
-// The number of the cause for which the written credit at a place is faulty, or 0.
-fn written_cause(part: &[u32], at: usize) -> u32
-    requires { ⌜ Readable (suc at) (now part) ⌝ }
-    ensures { λ r. ⌜ r ≡ writtenCause (now (part .entry)) at ⌝ }
-{
-    if lacking(part, at, amounts::WRITTEN_CREDIT) {
-        return causes::WORDS_LACKING;
-    }
-    written_fault(written_words(part, at))
+    MemberStep::Next(behind)
 }
 
 // Kind 6, which opens; its covers are read one by one. A written credit's factor goes by its reference, so no band decides here.
@@ -167,10 +145,9 @@ fn written(part: &[u32], at: usize, t: Tally) -> MemberStep
     requires { ⌜ Standing (now part) at t × (stands 6 (now part) at ≡ true) ⌝ }
     ensures { λ r. ⌜ ((bands : bands.Bands) → MemberRead bands (now (part .entry)) at t r) ⌝ }
 {
-    let cause = written_cause(part, at);
-    if cause != causes::NONE {
+    if !good_written(part, at, end_of(part.len(), amounts::WRITTEN_CREDIT)) {
         return MemberStep::Refused {
-            number: cause,
+            number: written_cause(part, at),
             place: at,
         };
     }

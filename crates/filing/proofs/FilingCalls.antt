@@ -46,7 +46,7 @@ use Rattle.filing.specs.Answers.{earlyNumber, refusedIn, admissionOf, an
 use Rattle.filing.proofs.Answer as TN
 use Rattle.filing.proofs.Answer.Laws as TN′
 use Rattle.filing.proofs.early.early as early′
-use Rattle.reading.proofs.head.protections_of as protections-of′
+use Rattle.heads.proofs.head.protections_of as protections-of′
 use Rattle.filing.proofs.stages.is_refused as is-refused′
 use Rattle.filing.proofs.admit.admit as admit′
 use Rattle.filing.proofs.report.report as report′

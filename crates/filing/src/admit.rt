@@ -1,8 +1,8 @@
 // All of a filing but the rows: the reading, and the settling in the lent register.
 use crate::early::early;
 use crate::stages::is_refused;
+use heads::head::protections_of;
 use reading::Admission;
-use reading::head::protections_of;
 use register::clear;
 use register::settle;
 use rules::Entry;

@@ -1,7 +1,7 @@
 // The refusals before the records.
-use reading::head::date_faulty;
-use reading::head::head_faulty;
-use reading::head::protections_of;
+use heads::head::date_faulty;
+use heads::head::head_faulty;
+use heads::head::protections_of;
 use rules::causes;
 use rules::limits;
 ghost use mathlib.Core.Path.{_≡_};

@@ -1,8 +1,8 @@
 // The template, written only on acceptance.
 use crate::Answer;
+use heads::head::tier1_gain;
+use heads::head::tier1_loss;
 use reading::Admission;
-use reading::head::tier1_gain;
-use reading::head::tier1_loss;
 use rules::Sums;
 use template::exposure::exposure;
 use template::ratio::verdict;

@@ -1,15 +1,17 @@
 -- The loop over the trades of a financing set: what holds at its head, and what each way out of it returns. Assumes nothing.
 use Prim.Native.Nat.{ℕ, zero, suc, _+_, _-_, _*_, _^_, _≤_, _<_, min}
-use mathlib.Core.Path.{_≡_, refl, sym, _∙_, ap, ap₂}
+use mathlib.Core.Path.{_≡_, refl, sym, _∙_, ap}
 use mathlib.Core.Bool.{Bool, true, false, cond}
 use mathlib.Core.List.{List}
 use native.Mathlib.Omega.{arith}
+use borrow.Author.Tests.{eqb-true, eqb-false}
 use lib.Dec.{eqb}
 use lib.ListN.{length}
 use Rattle.rules.specs.Word.{word, kindOf, bitOf, sizeOf}
 use Rattle.rules.specs.Book.{FinancingTrade}
 use Rattle.rules.specs.Run.{bad, some, Run, withOne}
 use Rattle.rules.specs.Read.{lacks, stands, lastDaysAt, financingTradeAt, financingTradeTurn, financingMemberTurn}
+use Rattle.rules.proofs.Lists.{and-left, and-right}
 use Rattle.rules.proofs.Along.{Along, along-start, along-over, along-bad, along-one}
 use Rattle.records.specs.Cause.{recordCause}
 use Rattle.records.proofs.Words.{record-faulty, record-good}
@@ -19,7 +21,9 @@ use Rattle.financing.specs.declared.trades.Weighed.the-variants.{Whole, 
 use Rattle.financing.specs.Weighing.{noTally, settled, tallied, tallyFrom, weighedTo, weighedOf, tradesOf, tallySum, TallyRoomy}
 use Rattle.financing.specs.declared.read.FinancingTradeWords.{FinancingTradeWords}
 use Rattle.financing.specs.Words.{financingTradeWords, financingTradeOf, financingTradeFaultOf, financingTradeCause}
+use Rattle.financing.specs.Good.{soundTrade, PlainTrade}
 use Rattle.financing.proofs.Order.{days-first, days-behind}
+use Rattle.financing.proofs.Sound.{sound-plain}
 
 -- the words at a place are the record there
 as-read : (ws : List ℕ) (at : ℕ) → financingTradeOf (financingTradeWords ws at) ≡ financingTradeAt ws at
@@ -43,79 +47,99 @@ module _ (ws : List ℕ) (t : FinancingTally) (at : ℕ) (i : AtTrade ws t at) w
   pub tally-roomy : length ws ≤ 2 ^ 20 → TallyRoomy t
   tally-roomy h = omega (arith, i .along .within)
 
-  module _ (r : Bool) (rq : r ≡ stands 9 ws at) where
-    -- no trade stands here
-    pub trades-over : r ≡ false → Whole t at ≡ weighedOf noTally (tradesOf ws)
-    unfolding financingMemberTurn tallyFrom
-    trades-over e = along-over (length ws) (financingMemberTurn ws) weighedOf _ t at (i .along) (simp (← rq, e))
+  -- no trade stands here
+  pub trades-over : (r : Bool) → r ≡ stands 9 ws at → r ≡ false → Whole t at ≡ weighedOf noTally (tradesOf ws)
+  unfolding financingMemberTurn tallyFrom
+  trades-over r rq e = along-over (length ws) (financingMemberTurn ws) weighedOf _ t at (i .along) (simp (← rq, e))
 
-    module _ (e : r ≡ true) where
-      there : (at < length ws) × (kindOf (word ws at) ≡ 9)
-      there = stands-is 9 ws at (sym rq ∙ e)
+  fault : ℕ
+  fault = financingTradeFaultOf (bitOf 1 (word ws 0)) (lastDaysAt ws at) (financingTradeWords ws at)
 
-      pub trade-there : at < length ws
-      trade-there = there .0
+  -- the cause, by the day of the tally and by that of the definition
+  cause-is : financingTradeCause (bitOf 1 (word ws 0)) (t .day) ws at ≡ recordCause 7 ws at fault
+  unfolding fault
+  cause-is = ap (λ (d : ℕ). financingTradeCause (bitOf 1 (word ws 0)) d ws at) (i .day)
 
-      here : financingMemberTurn ws at ≡ financingTradeTurn ws at
-      unfolding financingMemberTurn
-      here = simp (← rq, e)
+  -- one stands here
+  module _ (e : stands 9 ws at ≡ true) where
+    there : (at < length ws) × (kindOf (word ws at) ≡ 9)
+    there = stands-is 9 ws at e
 
-      fault : ℕ
-      fault = financingTradeFaultOf (bitOf 1 (word ws 0)) (lastDaysAt ws at) (financingTradeWords ws at)
+    here : financingMemberTurn ws at ≡ financingTradeTurn ws at
+    unfolding financingMemberTurn
+    here = simp e
 
-      module _ (agent : Bool) (aq : agent ≡ bitOf 1 (word ws 0)) (f : ℕ) (fq : f ≡ financingTradeCause agent (t .day) ws at) where
-        fault-is : f ≡ recordCause 7 ws at fault
-        unfolding fault
-        fault-is = fq ∙ ap₂ (λ (b : Bool) (d : ℕ). financingTradeCause b d ws at) aq (i .day)
+  pub trade-there : (r : Bool) → r ≡ stands 9 ws at → r ≡ true → at < length ws
+  trade-there r rq e = there (sym rq ∙ e) .0
 
-        -- a faulty trade stands here
-        pub trade-stop : (f ≡ 0 → ⊥) → Refused f at ≡ weighedOf noTally (tradesOf ws)
-        unfolding tallyFrom financingTradeTurn fault
-        trade-stop n = go f n ∙ along-bad (length ws) (financingMemberTurn ws) weighedOf _ t at (i .along) f at
-            (here ∙ record-faulty ws at 7 (amounts-at _ (there .1)) fault (some (financingTradeAt ws at) 0) (λ z. n (fault-is ∙ z)) ∙ ap (λ (x : ℕ). bad x at) (sym fault-is))
-          where
-            go : (g : ℕ) → (g ≡ 0 → ⊥) → Refused g at ≡ weighedTo t g at
-            go zero m = absurd (m refl)
-            go (suc g) m = refl
+  module _ (g : Bool) (gq : g ≡ soundTrade (t .day) ws at) where
+    -- a faulty trade stands here
+    module _ (b : g ≡ false) (r : Bool) (rq : r ≡ stands 9 ws at) (e : r ≡ true) (agent : Bool) (aq : agent ≡ bitOf 1 (word ws 0)) (f : ℕ) (fq : f ≡ financingTradeCause agent (t .day) ws at) where
+      fault-is : f ≡ recordCause 7 ws at fault
+      fault-is = fq ∙ ap (λ (x : Bool). financingTradeCause x (t .day) ws at) aq ∙ cause-is
 
-        -- a trade without a fault
-        module _ (z : f ≡ 0) where
-          good : (lacks 7 ws at ≡ false) × (financingTradeTurn ws at ≡ some (financingTradeAt ws at) 0 (at + 8))
-          unfolding financingTradeTurn fault
-          good = record-good ws at 7 (amounts-at _ (there .1)) fault (some (financingTradeAt ws at) 0) (sym fault-is ∙ z)
+      pub trade-stop : Refused f at ≡ weighedOf noTally (tradesOf ws)
+      unfolding tallyFrom financingTradeTurn fault
+      trade-stop =
+          go f n ∙ along-bad (length ws) (financingMemberTurn ws) weighedOf _ t at (i .along) f at
+          (here s ∙ record-faulty ws at 7 (amounts-at _ (there s .1)) fault (some (financingTradeAt ws at) 0) (λ z. n (fault-is ∙ z)) ∙ ap (λ (x : ℕ). bad x at) (sym fault-is))
+        where
+          s : stands 9 ws at ≡ true
+          s = sym rq ∙ e
 
-          pub trade-room : at + 8 ≤ length ws
-          trade-room = omega (arith, lacks-room 7 ws at (good .0) (there .0))
+          n : f ≡ 0 → ⊥
+          n z = eqb-false _ _ (rw s at (sym gq ∙ b)) (cause-is ∙ sym fault-is ∙ z)
 
-          pub trade-less : length ws - (at + 8) < length ws - at
-          trade-less = omega (arith, trade-room)
+          go : (x : ℕ) → (x ≡ 0 → ⊥) → Refused x at ≡ weighedTo t x at
+          go zero m = absurd (m refl)
+          go (suc x) m = refl
 
-          module _ (w : FinancingTradeWords) (wq : w ≡ financingTradeWords ws at) (u : FinancingTally) (uq : u ≡ tallied t (financingTradeOf w)) where
-            q : u ≡ tallied t (financingTradeAt ws at)
-            q = uq ∙ ap (λ (x : FinancingTradeWords). tallied t (financingTradeOf x)) wq ∙ ap (tallied t) (as-read ws at)
+    -- a trade without a fault
+    module _ (z : g ≡ true) where
+      stands-here : stands 9 ws at ≡ true
+      stands-here = and-left (stands 9 ws at) _ (sym gq ∙ z)
 
-            added : (x : Run FinancingTrade) → weighedOf t (withOne (financingTradeAt ws at) x) ≡ weighedOf u x
-            unfolding tallyFrom
-            added x = ap (λ (y : FinancingTally). weighedOf y x) (sym q)
+      good : (lacks 7 ws at ≡ false) × (financingTradeTurn ws at ≡ some (financingTradeAt ws at) 0 (at + 8))
+      unfolding financingTradeTurn fault
+      good =
+          record-good ws at 7 (amounts-at _ (there stands-here .1)) fault (some (financingTradeAt ws at) 0)
+          (sym cause-is ∙ eqb-true _ _ (and-right (stands 9 ws at) _ (sym gq ∙ z)))
 
-            -- the cash of a closed day and that of a new one
-            cash-step : (b m : Bool) (closed receivable payable more owing : ℕ)
-                → closed + cond b 0 (min receivable payable) + (cond b receivable 0 + cond m more 0) + (cond b payable 0 + cond m owing 0) ≤ closed + receivable + payable + more + owing
-            cash-step true true closed receivable payable more owing = omega arith
-            cash-step true false closed receivable payable more owing = omega arith
-            cash-step false true closed receivable payable more owing = omega arith
-            cash-step false false closed receivable payable more owing = omega arith
+      pub trade-room : at + 8 ≤ length ws
+      trade-room = omega (arith, lacks-room 7 ws at (good .0) (there stands-here .0))
 
-            pub trade-next : AtTrade ws u (at + 8)
-            unfolding tallied settled financingTradeAt
-            trade-next = record {
-              along = along-one (length ws) (financingMemberTurn ws) weighedOf _ t at (i .along) (financingTradeAt ws at) (at + 8) u
-                  (here ∙ good .1) (omega arith) trade-room added;
-              day = ap (λ (x : FinancingTally). x .day) q ∙ sym (days-behind ws at (good .0));
-              small = omega (
-                arith,
-                ap tallySum q,
-                cash-step (eqb (sizeOf (word ws (at + 7))) (t .day)) (bitOf 0 (word ws at)) (t .closed) (t .receivable) (t .payable) (sizeOf (word ws (at + 3))) (sizeOf (word ws (at + 4))),
-                i .small,
-              );
-            }
+      pub trade-plain : (w : FinancingTradeWords) → w ≡ financingTradeWords ws at → PlainTrade w
+      trade-plain w wq = rw wq (sound-plain ws at (t .day) (omega (arith, trade-room)) (sym gq ∙ z))
+
+      pub trade-less : length ws - (at + 8) < length ws - at
+      trade-less = omega (arith, trade-room)
+
+      module _ (w : FinancingTradeWords) (wq : w ≡ financingTradeWords ws at) (u : FinancingTally) (uq : u ≡ tallied t (financingTradeOf w)) where
+        q : u ≡ tallied t (financingTradeAt ws at)
+        q = uq ∙ ap (λ (x : FinancingTradeWords). tallied t (financingTradeOf x)) wq ∙ ap (tallied t) (as-read ws at)
+
+        added : (x : Run FinancingTrade) → weighedOf t (withOne (financingTradeAt ws at) x) ≡ weighedOf u x
+        unfolding tallyFrom
+        added x = ap (λ (y : FinancingTally). weighedOf y x) (sym q)
+
+        -- the cash of a closed day and that of a new one
+        cash-step : (b m : Bool) (closed receivable payable more owing : ℕ)
+            → closed + cond b 0 (min receivable payable) + (cond b receivable 0 + cond m more 0) + (cond b payable 0 + cond m owing 0) ≤ closed + receivable + payable + more + owing
+        cash-step true true closed receivable payable more owing = omega arith
+        cash-step true false closed receivable payable more owing = omega arith
+        cash-step false true closed receivable payable more owing = omega arith
+        cash-step false false closed receivable payable more owing = omega arith
+
+        pub trade-next : AtTrade ws u (at + 8)
+        unfolding tallied settled financingTradeAt
+        trade-next = record {
+          along = along-one (length ws) (financingMemberTurn ws) weighedOf _ t at (i .along) (financingTradeAt ws at) (at + 8) u
+              (here stands-here ∙ good .1) (omega arith) trade-room added;
+          day = ap (λ (x : FinancingTally). x .day) q ∙ sym (days-behind ws at (good .0));
+          small = omega (
+            arith,
+            ap tallySum q,
+            cash-step (eqb (sizeOf (word ws (at + 7))) (t .day)) (bitOf 0 (word ws at)) (t .closed) (t .receivable) (t .payable) (sizeOf (word ws (at + 3))) (sizeOf (word ws (at + 4))),
+            i .small,
+          );
+        }

@@ -1,3 +1,4 @@
+pub mod Good
 pub mod Netting
 pub mod Weighing
 pub mod Words

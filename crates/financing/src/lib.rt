@@ -14,6 +14,7 @@ ghost use Rattle.records.specs.Readable.{Readable};
 ghost use Rattle.records.specs.Step.{itemStep};
 
 mod faults;
+mod good;
 mod read;
 mod tally;
 mod trades;

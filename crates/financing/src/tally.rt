@@ -3,15 +3,14 @@ use crate::read::FinancingTradeWords;
 use records::sums::no_sums;
 use rules::Sums;
 use rules::payloads;
-use words::amount::size;
 use words::numbers::chosen;
 use words::numbers::less;
 use words::numbers::lesser;
-use words::numbers::short_of;
 use words::numbers::wide;
 use words::parts::bit;
 ghost use mathlib.Core.Path.{_≡_};
 ghost use Prim.Native.Nat.{_+_, _^_, _≤_};
+ghost use Rattle.financing.specs.Good.{PlainTrade};
 ghost use Rattle.financing.specs.Weighing.{TallyFits, TallyRoomy, excessIn, nettedIn, noTally, setSums, settled, tallied};
 ghost use Rattle.financing.specs.Words.{financingTradeOf};
 
@@ -44,14 +43,14 @@ impl FinancingTally {
         }
     }
 
-    // One trade more, by its words.
+    // One trade more, by its words: amounts without a sign, so that no mask is needed to have their sizes.
     pub fn add(mut self, t: FinancingTradeWords) -> FinancingTally
-        requires { ⌜ TallyRoomy self ⌝ }
+        requires { ⌜ TallyRoomy self × PlainTrade t ⌝ }
         ensures { λ r. ⌜ r ≡ tallied self (financingTradeOf t) ⌝ }
     {
-        let lent = wide(size(t.lent));
-        let received = wide(size(t.received));
-        self.assets = self.assets + wide(short_of(size(t.asset), size(t.securities)));
+        let lent = wide(t.lent);
+        let received = wide(t.received);
+        self.assets = self.assets + wide(t.asset - t.securities);
         self.lent = self.lent + lent;
         self.received = self.received + received;
         self.excess = self.excess + less(lent, received);
@@ -60,17 +59,15 @@ impl FinancingTally {
 
     // "cash netted is the lesser of summed receivables and summed payables; the days are added": a new day closes the one before.
     fn settle(mut self, t: FinancingTradeWords) -> FinancingTally
-        requires { ⌜ self .closed + self .receivable + self .payable ≤ 2 ^ 62 ⌝ }
+        requires { ⌜ (self .closed + self .receivable + self .payable ≤ 2 ^ 62) × PlainTrade t ⌝ }
         ensures { λ r. ⌜ r ≡ settled self (financingTradeOf t) ⌝ }
     {
-        let days = size(t.days);
-        let same = days == self.day;
+        let same = t.days == self.day;
         let marked = bit(t.head, payloads::FINANCING_TRADE_NET_SETTLED);
         self.closed = self.closed + chosen(same, 0, lesser(self.receivable, self.payable));
-        self.day = days;
-        self.receivable = chosen(same, self.receivable, 0)
-            + chosen(marked, wide(size(t.receivable)), 0);
-        self.payable = chosen(same, self.payable, 0) + chosen(marked, wide(size(t.payable)), 0);
+        self.day = t.days;
+        self.receivable = chosen(same, self.receivable, 0) + chosen(marked, wide(t.receivable), 0);
+        self.payable = chosen(same, self.payable, 0) + chosen(marked, wide(t.payable), 0);
         self
     }
 

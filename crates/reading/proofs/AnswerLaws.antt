@@ -10,7 +10,7 @@ use Rattle.rules.specs.declared.Sums.{Sums}
 use Rattle.rules.specs.Run.{Turn, over, bad, sound}
 use Rattle.rules.specs.Read.{headOf, endFault, itemTurn}
 use Rattle.rules.specs.Book.{Placed}
-use Rattle.derivatives.specs.Words.{setCause}
+use Rattle.weighing.specs.Words.{setCause}
 use Rattle.reading.specs.declared.items.ItemAnswer.the-variants.{Set, End}
 use Rattle.reading.specs.declared.items.ItemAnswer.the-variants as item
 use Rattle.reading.specs.Ahead.{unlessFaulty, AnswersItem}

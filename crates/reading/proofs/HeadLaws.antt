@@ -14,7 +14,7 @@ use Rattle.rules.specs.Run.{Turn, bad}
 use Rattle.rules.specs.Read.{lacks, recordThen, derivativeSetTurn, itemOf, itemTurn}
 use Rattle.laws.proofs.Records.{amounts-at}
 use Rattle.records.proofs.Words.{record-faulty}
-use Rattle.derivatives.specs.Words.{setCause}
+use Rattle.weighing.specs.Words.{setCause}
 use Rattle.reading.specs.declared.Admission.the-variants.{Refused}
 use Rattle.reading.specs.Steps.{SumsUpTo}
 use Rattle.reading.specs.Ahead.{endsAt, fromItem}

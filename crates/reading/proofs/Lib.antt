@@ -3,7 +3,6 @@ pub mod AheadLaws
 pub mod ItemLaws
 pub mod RunLaws
 pub mod HeadLaws
-pub mod DateLaws
 pub mod ItemRuns
 pub mod SetBounds
 pub mod SetHead

@@ -8,10 +8,10 @@ use Rattle.rules.specs.Read.{derivativeSetAt}
 use Rattle.rules.specs.Weigh.{marginOffsets, replacementOf, weightedIn}
 use Rattle.laws.proofs.ItemRows.{marked, replacement-at-most, weighted-at-most}
 use Rattle.records.specs.Sums.{plus}
-use Rattle.derivatives.specs.declared.read.SetWords.{SetWords}
-use Rattle.derivatives.specs.declared.tally.Tally.{Tally}
-use Rattle.derivatives.specs.Words.{setOf}
-use Rattle.derivatives.specs.Gathered.{TallyFits, setSums, tallyBy}
+use Rattle.weighing.specs.declared.read.SetWords.{SetWords}
+use Rattle.weighing.specs.declared.tally.Tally.{Tally}
+use Rattle.weighing.specs.Words.{setOf}
+use Rattle.weighing.specs.Gathered.{TallyFits, setSums, tallyBy}
 use Rattle.derivatives.specs.Ahead.{TallyUpTo}
 use Rattle.reading.specs.Steps.{allSums, SumsUpTo}
 

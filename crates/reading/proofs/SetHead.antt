@@ -13,10 +13,10 @@ use Rattle.rules.specs.Register.{drawsOf}
 use Rattle.laws.proofs.Records.{lacks-room, amounts-at}
 use Rattle.records.specs.Sums.{plus}
 use Rattle.records.proofs.Words.{record-good}
-use Rattle.derivatives.specs.Words.{setCause}
-use Rattle.derivatives.specs.Gathered.{noTally}
+use Rattle.weighing.specs.Words.{setCause}
+use Rattle.weighing.specs.Gathered.{noTally}
 use Rattle.derivatives.specs.Ahead.{membersAhead, fromMember, setAhead, newSet, SoundSet}
-use Rattle.derivatives.proofs.Entry.{item-is}
+use Rattle.weighing.proofs.Entry.{item-is}
 use Rattle.reading.specs.Ahead.{after, setBehind, fromItem, fromSet}
 use Rattle.reading.proofs.AheadLaws.{ahead-some, ahead-broken}
 use Rattle.reading.proofs.ItemLaws.{Met, kind-here, turn-here, of-kind-4}

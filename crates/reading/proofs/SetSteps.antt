@@ -10,15 +10,15 @@ use Rattle.rules.specs.declared.Sums.{Sums}
 use Rattle.rules.specs.Read.{headOf}
 use Rattle.records.specs.Readable.{Readable}
 use Rattle.records.specs.Sums.{plus, SumsRoomy}
-use Rattle.derivatives.specs.declared.read.SetWords.{SetWords}
-use Rattle.derivatives.specs.declared.tally.Tally.{Tally}
+use Rattle.weighing.specs.declared.read.SetWords.{SetWords}
+use Rattle.weighing.specs.declared.tally.Tally.{Tally}
 use Rattle.derivatives.specs.declared.set.OpenSet.{OpenSet}
 use Rattle.derivatives.specs.declared.set.Weighed.{Weighed}
 use Rattle.derivatives.specs.declared.set.Weighed.the-variants.{Whole}
 use Rattle.derivatives.specs.declared.set.Weighed.the-variants as set
-use Rattle.derivatives.specs.Words.{setWords, setOf}
-use Rattle.derivatives.specs.Gathered.{TallyFits, setSums}
-use Rattle.derivatives.proofs.SetRows.{set-roomy}
+use Rattle.weighing.specs.Words.{setWords, setOf}
+use Rattle.weighing.specs.Gathered.{TallyFits, setSums}
+use Rattle.weighing.proofs.SetRows.{set-roomy}
 use Rattle.derivatives.specs.Ahead.{setAhead, TallyUpTo, SoundSet, weighedAhead, SoundWeighed}
 use Rattle.reading.specs.declared.Admission.the-variants.{Refused}
 use Rattle.reading.specs.declared.cursor.Cursor.{Cursor}

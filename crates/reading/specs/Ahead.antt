@@ -17,8 +17,8 @@ use Rattle.rules.specs.Rows.{sumsOf}
 use Rattle.records.specs.Readable.{Readable}
 use Rattle.records.specs.Sums.{noSums, plus}
 use Rattle.derivatives.specs.declared.set.OpenSet.{OpenSet}
-use Rattle.derivatives.specs.Words.{setWords, setOf}
-use Rattle.derivatives.specs.Gathered.{setSums}
+use Rattle.weighing.specs.Words.{setWords, setOf}
+use Rattle.weighing.specs.Gathered.{setSums}
 use Rattle.derivatives.specs.Ahead.{Ending, gathered, refused, SetAhead, setAhead, newSet, SoundSet}
 use Rattle.reading.specs.declared.Admission.{Admission}
 use Rattle.reading.specs.declared.Admission.the-variants.{Admitted, Refused}

@@ -1,9 +1,9 @@
 // Where the reading of a book stands, and the next cover from there on.
 use crate::Admission;
-use crate::head::bands_of;
 use crate::steps::Step;
 use crate::steps::next_step;
 use derivatives::set::OpenSet;
+use heads::head::bands_of;
 use records::sums::no_sums;
 use rules::Bands;
 use rules::Draw;

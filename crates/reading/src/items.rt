@@ -1,13 +1,13 @@
 // What stands where an item is due, behind the protections.
 use crate::runs::assets;
 use crate::runs::off_balance_items;
-use derivatives::set_cause;
 use financing::financing_set;
 use records::ItemStep;
 use records::sums::plus;
 use rules::Sums;
 use rules::causes;
 use rules::kinds;
+use weighing::set_cause;
 use words::causes::cause;
 use words::numbers::either;
 use words::parts::kind;

@@ -3,7 +3,6 @@
 use rules::Sums;
 
 pub mod cursor;
-pub mod head;
 mod items;
 mod protections;
 mod runs;

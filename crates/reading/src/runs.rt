@@ -1,5 +1,6 @@
 // Runs of assets and of off-balance items: loops of their own, which carry two sums; the others stay as they are.
 use crate::items::ItemAnswer;
+use figures::conversion::conversion_figures;
 use records::assets::asset_cause;
 use records::assets::asset_sums;
 use records::assets::asset_words;
@@ -11,33 +12,21 @@ use records::commitments::off_balance_cause;
 use records::commitments::off_balance_sums;
 use records::commitments::off_balance_words;
 use records::commitments::unconverted_by;
+use records::presence::end_of;
 use records::presence::standing;
 use records::sums::plus;
 use rules::Sums;
 use rules::amounts;
 use rules::kinds;
 use rules::lengths;
-use weights::conversion::conversion_figures;
 use words::amount::size;
 use words::numbers::wide;
 ghost use mathlib.Core.Path.{_≡_};
 ghost use mathlib.Core.Bool.{true};
-ghost use Prim.Native.Nat.{_-_};
 ghost use denote.Ref.{now};
 ghost use Rattle.rules.specs.Read.{stands};
 ghost use Rattle.reading.specs.Steps.{SumsUpTo};
 ghost use Rattle.reading.specs.Ahead.{AnswersItem};
-
-// The first place at which a record of so many amounts has no room any more.
-fn end_of(length: usize, amounts: usize) -> usize
-    ensures { λ r. ⌜ r ≡ length - amounts ⌝ }
-{
-    if length < amounts {
-        0
-    } else {
-        length - amounts
-    }
-}
 
 // From an asset up to the first word that begins none, or to one with a fault.
 pub fn assets(book: &[u32], from: usize, s: Sums) -> ItemAnswer

@@ -1,19 +1,19 @@
 // One step of the reading: the protections, what stands where an item is due, or the members of a derivative set up to the next cover.
 use crate::Admission;
 use crate::cursor::Cursor;
-use crate::head::protections_of;
 use crate::items::ItemAnswer;
 use crate::items::item_at;
 use crate::protections::Protections;
 use crate::protections::read_protections;
-use derivatives::read::set_words;
-use derivatives::rows::set_sums;
 use derivatives::set::OpenSet;
 use derivatives::set::Weighed;
 use derivatives::set::weigh;
+use heads::head::protections_of;
 use records::sums::no_sums;
 use records::sums::plus;
 use rules::Draw;
+use weighing::read::set_words;
+use weighing::rows::set_sums;
 ghost use mathlib.Core.Path.{_≡_};
 ghost use mathlib.Core.Bool.{true, false};
 ghost use denote.Ref.{now};

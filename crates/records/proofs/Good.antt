@@ -15,7 +15,7 @@ use Rattle.rules.specs.Read.{lacks, assetAt}
 use Rattle.rules.specs.Rows.{assetRows}
 use Rattle.rules.proofs.Lists.{and-right}
 use Rattle.words.proofs.Both.{as-both}
-use Rattle.weights.proofs.Figures.{no-figure}
+use Rattle.figures.proofs.Figures.{no-figure}
 use Rattle.records.specs.declared.assets.AssetWords.{AssetWords}
 use Rattle.records.specs.declared.commitments.OffBalanceWords.{OffBalanceWords}
 use Rattle.records.specs.Step.{assetWords, assetList, assetCause, goodAsset, plainAmount, offBalanceWords, offBalanceCause, goodOffBalance, soundAt}

@@ -1,12 +1,12 @@
 // Kind 10, an off-balance item.
 use crate::presence::lacking;
 use crate::sums::no_sums;
+use figures::conversion::conversion;
 use rules::Sums;
 use rules::amounts;
 use rules::causes;
 use rules::kinds;
 use rules::payloads;
-use weights::conversion::conversion;
 use words::amount::faulty_amount;
 use words::amount::plain_amount;
 use words::amount::size;
@@ -28,7 +28,7 @@ ghost use Rattle.rules.specs.Factors.{conversionOf};
 ghost use Rattle.rules.specs.Book.{offBalance};
 ghost use Rattle.rules.specs.Read.{offBalanceAt};
 ghost use Rattle.rules.specs.Rows.{row18};
-ghost use Rattle.weights.specs.Figures.{conversionFigures};
+ghost use Rattle.figures.specs.Figures.{conversionFigures};
 ghost use Rattle.records.specs.Readable.{Readable};
 ghost use Rattle.records.specs.Step.{goodOffBalance, offBalanceCause, offBalanceList, offBalanceSums, offBalanceWords, soundAt};
 

@@ -3,7 +3,7 @@ use rules::kinds;
 use words::numbers::either;
 use words::parts::kind;
 ghost use mathlib.Core.Path.{_≡_};
-ghost use Prim.Native.Nat.{_≤_, _<_};
+ghost use Prim.Native.Nat.{_-_, _≤_, _<_};
 ghost use denote.Ref.{now};
 ghost use Rattle.rules.specs.Word.{word};
 ghost use Rattle.rules.specs.Read.{lacks, stands};
@@ -24,6 +24,17 @@ pub fn lacking(ws: &[u32], at: usize, n: usize) -> bool
         i -= 1;
     }
     other
+}
+
+// The first place at which a record of so many amounts has no room any more.
+pub fn end_of(length: usize, amounts: usize) -> usize
+    ensures { λ r. ⌜ r ≡ length - amounts ⌝ }
+{
+    if length < amounts {
+        0
+    } else {
+        length - amounts
+    }
 }
 
 // A record of a kind stands at a place.

@@ -1,4 +1,5 @@
 pub mod Lists
+pub mod Below
 pub mod Runs
 pub mod Differences
 pub mod Ceil

@@ -31,8 +31,8 @@ use Rattle.cuts.proofs.Cutting.{ItemHere}
 use Rattle.other_marks.specs.Marked.{settings, bookWith, setWith}
 use Rattle.other_marks.specs.Claims.{LikeFiled}
 use Rattle.other_marks.proofs.Books.{sum-among, stands, begins-within, accepted-alike}
-use Rattle.derivatives.specs.declared.tally.Tally.{Tally}
-use Rattle.derivatives.specs.Gathered.{noTally, plusMembers, TallyRoomy, TallyFits}
+use Rattle.weighing.specs.declared.tally.Tally.{Tally}
+use Rattle.weighing.specs.Gathered.{noTally, plusMembers, TallyRoomy, TallyFits}
 use Rattle.settings.specs.declared.Counted.{Counted}
 use Rattle.settings.specs.declared.exposure.Pieces.{Pieces}
 use Rattle.settings.specs.Settings.{leading, howMany, countsOf, verdictWith}

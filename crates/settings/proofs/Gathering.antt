@@ -12,12 +12,12 @@ use Rattle.baskets.specs.declared.BasketRead.{BasketRead}
 use Rattle.baskets.specs.declared.BasketRead.the-variants.{Whole, Refused}
 use Rattle.baskets.specs.Reading.{basketCause, basketRead}
 use Rattle.baskets.proofs.Reading.{Told, told}
-use Rattle.derivatives.specs.declared.tally.Tally.{Tally}
-use Rattle.derivatives.specs.declared.read.TradeWords.{TradeWords}
-use Rattle.derivatives.specs.declared.read.WrittenWords.{WrittenWords}
-use Rattle.derivatives.specs.Words.{tradeWords, writtenWords, tradeOf, writtenOf}
-use Rattle.derivatives.specs.Gathered.{plusMember, plusWritten, plusBasket}
-use Rattle.derivatives.proofs.Layouts.{trade-laid, written-laid}
+use Rattle.weighing.specs.declared.tally.Tally.{Tally}
+use Rattle.weighing.specs.declared.read.TradeWords.{TradeWords}
+use Rattle.weighing.specs.declared.read.WrittenWords.{WrittenWords}
+use Rattle.weighing.specs.Words.{tradeWords, writtenWords, tradeOf, writtenOf}
+use Rattle.weighing.specs.Gathered.{plusMember, plusWritten, plusBasket}
+use Rattle.weighing.proofs.Layouts.{trade-laid, written-laid}
 use Rattle.settings.specs.declared.members.Upto.{Upto}
 use Rattle.settings.specs.declared.members.NextMember.{NextMember}
 use Rattle.settings.specs.declared.members.NextMember.the-variants.{Some, None}

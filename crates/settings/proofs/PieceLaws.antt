@@ -7,11 +7,11 @@ use lib.Dec.{eqb}
 use Rattle.rules.specs.Word.{bitOf, fieldOf, sizeOf}
 use Rattle.rules.specs.Read.{derivativeSetAt}
 use Rattle.rules.proofs.Weighted.{at-most}
-use Rattle.derivatives.specs.declared.read.SetWords.{SetWords}
-use Rattle.derivatives.specs.declared.tally.Tally.{Tally}
-use Rattle.derivatives.specs.Words.{setOf}
-use Rattle.derivatives.specs.Gathered.{TallyFits}
-use Rattle.derivatives.proofs.Truth.{five-bits}
+use Rattle.weighing.specs.declared.read.SetWords.{SetWords}
+use Rattle.weighing.specs.declared.tally.Tally.{Tally}
+use Rattle.weighing.specs.Words.{setOf}
+use Rattle.weighing.specs.Gathered.{TallyFits}
+use Rattle.weighing.proofs.Truth.{five-bits}
 use Rattle.settings.specs.declared.exposure.Pieces.{Pieces}
 use Rattle.settings.specs.Pieces.{netIn, keptNetted, piecesOf, exposedBy}
 

@@ -15,7 +15,7 @@ use Rattle.cuts.proofs.Chains.{Chain, sureRun, chain-onward, chain-run}
 use Rattle.cuts.proofs.Grammar.{whole-within}
 use Rattle.cuts.proofs.Records.{MemberRead, member-made, member-over, member-onward, derivativeSetFaultAt, ItemRead, item-onward}
 use Rattle.other_marks.specs.Marked.{setWith}
-use Rattle.derivatives.specs.Words.{setWords, setOf}
+use Rattle.weighing.specs.Words.{setWords, setOf}
 use Rattle.settings.specs.Members.{membersFrom}
 
 -- ---- losses: less than 2 ^ 27 for each member

@@ -21,10 +21,10 @@ use Rattle.rules.proofs.Lists.{or-left, or-right}
 use Rattle.laws.specs.Exposure.{exposureOf}
 use Rattle.laws.proofs.Accepted.{accepted-is}
 use Rattle.records.specs.Readable.{Readable}
-use Rattle.derivatives.specs.declared.tally.Tally.{Tally}
-use Rattle.derivatives.specs.declared.read.SetWords.{SetWords}
-use Rattle.derivatives.specs.Words.{setWords, setOf}
-use Rattle.derivatives.specs.Gathered.{TallyFits}
+use Rattle.weighing.specs.declared.tally.Tally.{Tally}
+use Rattle.weighing.specs.declared.read.SetWords.{SetWords}
+use Rattle.weighing.specs.Words.{setWords, setOf}
+use Rattle.weighing.specs.Gathered.{TallyFits}
 use Rattle.settings.specs.declared.Counted.{Counted}
 use Rattle.settings.specs.declared.exposure.Pieces.{Pieces}
 use Rattle.settings.specs.Settings.{countsOf, verdictWith}

@@ -20,8 +20,8 @@ use Rattle.laws.proofs.Valid.{cause-none}
 use Rattle.cuts.proofs.Chains.{Cut, sureRun, chain-onward, chain-run}
 use Rattle.cuts.proofs.Grammar.{Whole, whole-within, stands-by-kind}
 use Rattle.cuts.proofs.Records.{NoneOf, isCover, CoverRead, cover-made, cover-over, cover-onward, isMember, MemberRead, writtenFaultAt}
-use Rattle.derivatives.specs.declared.tally.Tally.{Tally}
-use Rattle.derivatives.specs.Gathered.{plusMember, plusWritten, plusBasket, plusMembers, TallyRoomy}
+use Rattle.weighing.specs.declared.tally.Tally.{Tally}
+use Rattle.weighing.specs.Gathered.{plusMember, plusWritten, plusBasket, plusMembers, TallyRoomy}
 use Rattle.settings.specs.declared.members.Upto.{Upto}
 use Rattle.settings.specs.declared.members.NextMember.the-variants.{Some, None}
 use Rattle.settings.specs.Members.{coversFrom, SureCovers, membersFrom, tallyFrom, afterTrade, afterCredit, afterBasket, SureMembers, Moved}

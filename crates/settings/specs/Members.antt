@@ -10,8 +10,8 @@ use Rattle.rules.specs.Run.{Run, runFrom}
 use Rattle.rules.specs.Read.{coverTurn, tradeAt, writtenAt, basketAt, memberTurn}
 use Rattle.rules.specs.Weigh.{basketAddOn}
 use Rattle.records.specs.Readable.{Readable}
-use Rattle.derivatives.specs.declared.tally.Tally.{Tally}
-use Rattle.derivatives.specs.Gathered.{noTally, plusMember, plusWritten, plusBasket, plusMembers, TallyRoomy}
+use Rattle.weighing.specs.declared.tally.Tally.{Tally}
+use Rattle.weighing.specs.Gathered.{noTally, plusMember, plusWritten, plusBasket, plusMembers, TallyRoomy}
 use Rattle.settings.specs.declared.members.Upto.{Upto}
 use Rattle.settings.specs.declared.members.NextMember.{NextMember}
 use Rattle.settings.specs.declared.members.NextMember.the-variants.{Some, None}

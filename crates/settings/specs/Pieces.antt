@@ -7,7 +7,7 @@ use Rattle.rules.specs.Book.{DerivativeSet}
 use Rattle.rules.specs.Weighted.{weightedOf}
 use Rattle.rules.specs.Ratio.{tier1Of, verdictOf}
 use Rattle.other_marks.specs.Marked.{settings}
-use Rattle.derivatives.specs.declared.tally.Tally.{Tally}
+use Rattle.weighing.specs.declared.tally.Tally.{Tally}
 use Rattle.settings.specs.declared.exposure.Pieces.{Pieces}
 
 -- the net of a tally, and the weighted add-on that is kept in where netting is marked

@@ -1,7 +1,7 @@
 // What a derivative set adds to row 21 under each setting of its marks.
-use derivatives::read::SetWords;
-use derivatives::tally::Tally;
 use rules::payloads;
+use weighing::read::SetWords;
+use weighing::tally::Tally;
 use weights::addon::weighted;
 use words::amount::size;
 use words::numbers::chosen;
@@ -11,8 +11,8 @@ use words::parts::bit;
 use words::parts::field;
 ghost use mathlib.Core.Path.{_≡_};
 ghost use Prim.Native.Nat.{_≤_};
-ghost use Rattle.derivatives.specs.Gathered.{TallyFits};
-ghost use Rattle.derivatives.specs.Words.{setOf};
+ghost use Rattle.weighing.specs.Gathered.{TallyFits};
+ghost use Rattle.weighing.specs.Words.{setOf};
 ghost use Rattle.settings.specs.Pieces.{PiecesFit, exposedBy, piecesOf};
 
 // Of what its exposure is made, in thousandths, whatever its marks: replacement and the add-on that is kept in without netting, with netting, and with

@@ -1,23 +1,25 @@
 // The members of a derivative set that was read without a fault, weighed once more from its words: no cause is asked for, and no cover is drawn.
 use baskets::BasketRead;
 use baskets::basket_at;
-use derivatives::read::cover_words;
-use derivatives::read::trade_words;
-use derivatives::read::written_words;
-use derivatives::tally::Tally;
+use figures::factors::factor_figures;
 use records::presence::standing;
 use rules::Bands;
 use rules::kinds;
 use rules::lengths;
+use weighing::read::cover_words;
+use weighing::read::trade_words;
+use weighing::read::written_words;
+use weighing::tally::Tally;
 use words::amount::size;
 use words::numbers::wide;
 ghost use mathlib.Core.Path.{_≡_};
 ghost use Prim.Native.Nat.{_+_, _≤_};
 ghost use denote.Ref.{now};
 ghost use Rattle.rules.specs.Word.{sizeOf, word};
+ghost use Rattle.figures.specs.Figures.{factorFigures};
 ghost use Rattle.records.specs.Readable.{Readable};
 ghost use Rattle.baskets.specs.Reading.{basketCause};
-ghost use Rattle.derivatives.specs.Gathered.{TallyRoomy};
+ghost use Rattle.weighing.specs.Gathered.{TallyRoomy};
 ghost use Rattle.settings.specs.Members.{fromHead, Moved, SureCovers, SureMembers, afterBasket, afterCredit, afterTrade, coveredFrom, coversFrom, tallyFrom};
 
 // What the members before a place come to, and that place, which counts from the set's head.
@@ -53,14 +55,14 @@ fn covers_from(part: &[u32], from: usize) -> Covers
 }
 
 // Kind 5.
-fn with_trade(part: &[u32], u: Upto, bands: Bands) -> Upto
-    requires { ⌜ Readable (u .at + 5) (now part) × TallyRoomy (u .tally) ⌝ }
+fn with_trade(part: &[u32], u: Upto, bands: Bands, figures: &[[u8; 3]; 16]) -> Upto
+    requires { ⌜ Readable (u .at + 5) (now part) × (TallyRoomy (u .tally) × (now figures ≡ factorFigures)) ⌝ }
     ensures { λ r. ⌜ r ≡ afterTrade bands (now (part .entry)) u ⌝ }
 {
     let at = u.at;
     let t = u.tally;
     Upto {
-        tally: t.add_trade(bands, trade_words(part, at)),
+        tally: t.add_trade(figures, bands, trade_words(part, at)),
         at: at + lengths::TRADE,
     }
 }
@@ -104,13 +106,13 @@ fn with_basket(part: &[u32], u: Upto) -> Upto
     }
 }
 
-fn next_member(part: &[u32], u: Upto, bands: Bands) -> NextMember
-    requires { ⌜ SureMembers bands (now part) u ⌝ }
+fn next_member(part: &[u32], u: Upto, bands: Bands, figures: &[[u8; 3]; 16]) -> NextMember
+    requires { ⌜ SureMembers bands (now part) u × (now figures ≡ factorFigures) ⌝ }
     ensures { λ r. ⌜ Moved bands (now (part .entry)) u r ⌝ }
 {
     let at = u.at;
     if standing(part, at, kinds::TRADE) {
-        return NextMember::Some(with_trade(part, u, bands));
+        return NextMember::Some(with_trade(part, u, bands, figures));
     }
     if standing(part, at, kinds::WRITTEN_CREDIT) {
         return NextMember::Some(with_credit(part, u));
@@ -126,12 +128,13 @@ pub fn tally_of(part: &[u32], bands: Bands) -> Tally
     requires { ⌜ SureMembers bands (now part) fromHead ⌝ }
     ensures { λ r. ⌜ r ≡ tallyFrom bands (now (part .entry)) fromHead ⌝ }
 {
+    let figures = factor_figures();
     let mut u = Upto {
         tally: Tally::none(),
         at: lengths::DERIVATIVE_SET,
     };
     loop {
-        match next_member(part, u, bands) {
+        match next_member(part, u, bands, &figures) {
             NextMember::Some(next) => {
                 u = next;
             }

@@ -1,7 +1,4 @@
-// The figures that weigh a record (document 01, "Factors" and "Weighing a set"): add-on factors, conversion figures, what
-// stays in of a written credit's add-on, and the weighted add-on of a set.
+// How add-ons are weighed (document 01, "Weighing a set"): what stays in of a written credit's add-on, and the weighted add-on of a set.
 pub mod addon;
-pub mod conversion;
-pub mod factors;
 pub mod kept;
 pub mod share;

@@ -3,9 +3,10 @@ use Prim.Native.Nat.{ℕ, _/_, _%_, _^_}
 use mathlib.Core.Path.{_≡_, refl, sym}
 use mathlib.Core.Bool.{Bool, true, false, not, _&&_, true≢false}
 use native.Mathlib.Omega.{arith}
-use borrow.Author.Tests.{eq-eqb, eqb-true, lt-leb, leb-false, lt-ltb, ltb-true, not-true}
-use lib.Dec.{eqb, ltb}
-use Rattle.rules.specs.Word.{kindOf, faultyAmount}
+use borrow.Author.Tests.{eq-eqb, eqb-true, eqb-false, ne-eqb, le-leb, lt-leb, leb-true, leb-false, lt-ltb, le-ltb, ltb-true, ltb-false, not-true}
+use lib.Dec.{eqb, leb, ltb}
+use Rattle.rules.proofs.Lists.{and-left, and-right}
+use Rattle.rules.specs.Word.{kindOf, faultyAmount, faultyDays, minusZero}
 
 pub as-both : (t a b : Bool) → (t ≡ true → (a ≡ true) × (b ≡ true)) → (a ≡ true → b ≡ true → t ≡ true) → t ≡ (a && b)
 as-both true a b f g = let h = f refl in simp (h .0, h .1)
@@ -18,3 +19,17 @@ plain-is w =
     as-both (ltb w (2 ^ 27)) (eqb (kindOf w) 0) (not (faultyAmount w))
     (λ e. let l = ltb-true w (2 ^ 27) e in (eq-eqb (w / 2 ^ 28) 0 (omega arith), simp (lt-leb (2 ^ 27) (w % 2 ^ 28) (omega arith))))
     (λ a b. let k = eqb-true (w / 2 ^ 28) 0 a in let l = leb-false (2 ^ 27) (w % 2 ^ 28) (not-true _ b) in lt-ltb w (2 ^ 27) (omega arith))
+
+pub value-is : (w : ℕ) → (ltb w (2 ^ 28) && not (eqb w (2 ^ 27))) ≡ (eqb (kindOf w) 0 && not (minusZero w))
+value-is w =
+    as-both (ltb w (2 ^ 28) && not (eqb w (2 ^ 27))) (eqb (kindOf w) 0) (not (minusZero w))
+    (λ e. let l = ltb-true w (2 ^ 28) (and-left (ltb w (2 ^ 28)) (not (eqb w (2 ^ 27))) e) in let n = eqb-false w (2 ^ 27) (not-true _ (and-right (ltb w (2 ^ 28)) (not (eqb w (2 ^ 27))) e)) in
+    (eq-eqb (w / 2 ^ 28) 0 (omega arith), simp (ne-eqb (w % 2 ^ 28) (2 ^ 27) (λ z. n (omega arith)))))
+    (λ a b. let k = eqb-true (w / 2 ^ 28) 0 a in let n = eqb-false (w % 2 ^ 28) (2 ^ 27) (not-true _ b) in
+    simp (lt-ltb w (2 ^ 28) (omega arith), ne-eqb w (2 ^ 27) (λ z. n (omega arith))))
+
+pub days-is : (w : ℕ) → leb w 65535 ≡ (eqb (kindOf w) 0 && not (faultyDays w))
+days-is w =
+    as-both (leb w 65535) (eqb (kindOf w) 0) (not (faultyDays w))
+    (λ e. let l = leb-true w 65535 e in (eq-eqb (w / 2 ^ 28) 0 (omega arith), simp (le-ltb 65535 (w % 2 ^ 28) (omega arith))))
+    (λ a b. let k = eqb-true (w / 2 ^ 28) 0 a in let l = ltb-false 65535 (w % 2 ^ 28) (not-true _ b) in le-leb w 65535 (omega arith))

@@ -1,4 +1,5 @@
 // An amount: "bit 27 the sign, bits 26 to 0 the size".
+use crate::numbers::both;
 use crate::parts::bit;
 use crate::parts::payload;
 use rules::limits;
@@ -59,6 +60,20 @@ pub fn faulty_days(w: u32) -> bool
     ensures { λ r. ⌜ r ≡ faultyDays w ⌝ }
 {
     payload(w) > limits::DAYS
+}
+
+// An amount of either sign: as two tests of the whole word.
+pub fn plain_value(w: u32) -> bool
+    ensures { λ r. ⌜ r ≡ (eqb (kindOf w) 0 && not (minusZero w)) ⌝ }
+{
+    both(w < 0x10000000, w != 0x08000000)
+}
+
+// Days: as one test of the whole word.
+pub fn plain_days(w: u32) -> bool
+    ensures { λ r. ⌜ r ≡ (eqb (kindOf w) 0 && not (faultyDays w)) ⌝ }
+{
+    w <= limits::DAYS
 }
 
 // An amount, and not negative: as one test of the whole word.

@@ -56,9 +56,9 @@ use Rattle.filing.proofs.FilingCalls.{EarlyOne, ProtectionsOf, IsRefuse
 use Rattle.filing.proofs.early.early.Symbol as early-def
 use Rattle.filing.proofs.early.early.Symbol.{name as #early}
 use Rattle.filing.proofs.early.early.Met as early-thm
-use Rattle.reading.proofs.head.protections_of.Symbol as protections-of-def
-use Rattle.reading.proofs.head.protections_of.Symbol.{name as #protections-of}
-use Rattle.reading.proofs.head.protections_of.Met as protections-of-thm
+use Rattle.heads.proofs.head.protections_of.Symbol as protections-of-def
+use Rattle.heads.proofs.head.protections_of.Symbol.{name as #protections-of}
+use Rattle.heads.proofs.head.protections_of.Met as protections-of-thm
 use Rattle.register.proofs.settle.Symbol as settle-def
 use Rattle.register.proofs.settle.Symbol.{name as #settle}
 use Rattle.register.proofs.settle.Met as settle-thm
@@ -226,7 +226,7 @@ admit-spec 𝓤 H 𝓜 𝓖 𝓡 =
     (tables 𝓤 H 𝓜 𝓡 code.env .C) (tables 𝓤 H 𝓜 𝓡 code.env .Λ) #admit code.function (code.unfolded 𝓤 H 𝓜 𝓡)
     (meets 𝓤 H (𝓖 .A) (givenOf 𝓤 H 𝓜 𝓖) (𝓜 .mem) (𝓡 .run) (tablesOf 𝓤 H 𝓜 (tables 𝓤 H 𝓜 𝓡 code.env)) (record {
       early = cited 𝓤 H (EarlyOne 𝓤 H (𝓖 .A) (𝓜 .mem) (𝓡 .run)) 𝓜 𝓡 code.env #early early-def.routine code.calls-filing·early·early (early-thm.met 𝓤 H 𝓜 𝓖 𝓡);
-      protections-of = cited 𝓤 H (ProtectionsOf 𝓤 H (𝓖 .A) (𝓜 .mem) (𝓡 .run)) 𝓜 𝓡 code.env #protections-of protections-of-def.routine code.calls-reading·head·protections-of (protections-of-thm.met 𝓤 H 𝓜 𝓖 𝓡);
+      protections-of = cited 𝓤 H (ProtectionsOf 𝓤 H (𝓖 .A) (𝓜 .mem) (𝓡 .run)) 𝓜 𝓡 code.env #protections-of protections-of-def.routine code.calls-heads·head·protections-of (protections-of-thm.met 𝓤 H 𝓜 𝓖 𝓡);
       settle = cited 𝓤 H (Settle 𝓤 H (𝓖 .A) (𝓜 .mem) (𝓡 .run)) 𝓜 𝓡 code.env #settle settle-def.routine code.calls-register·settle (settle-thm.met 𝓤 H 𝓜 𝓖 𝓡);
       is-refused = cited 𝓤 H (IsRefused 𝓤 H (𝓖 .A) (𝓜 .mem) (𝓡 .run)) 𝓜 𝓡 code.env #is-refused is-refused-def.routine code.calls-filing·stages·is-refused (is-refused-thm.met 𝓤 H 𝓜 𝓖 𝓡);
       clear = cited 𝓤 H (Clear 𝓤 H (𝓖 .A) (𝓜 .mem) (𝓡 .run)) 𝓜 𝓡 code.env #clear clear-def.routine code.calls-register·clear (clear-thm.met 𝓤 H 𝓜 𝓖 𝓡);

@@ -3,7 +3,7 @@ use Prim.Native.Nat.{_-_}
 use native.Mathlib.Omega.{arith}
 use lib.ListN.{length}
 use Rattle.rules.specs.Word.{sizeOf}
-use Rattle.derivatives.specs.declared.read.CoverWords.{CoverWords}
+use Rattle.weighing.specs.declared.read.CoverWords.{CoverWords}
 use borrow.Author.Needs.{needs}
 use Rattle.settings.proofs.Covers.{CoversLeft, covers-begin, cover-there, cover-taken, covers-over}
 use Rattle.settings.proofs.members.covers_from.Statement.{statement}
