@@ -4,14 +4,14 @@ use mathlib.Core.Path.{_≡_, refl, _∙_, ap₂}
 use mathlib.Core.Bool.{Bool, true, false, not, _&&_, _||_, cond, and-false}
 use mathlib.Core.List.{List}
 use native.Mathlib.Omega.{arith}
-use borrow.Author.Tests.{eq-eqb, eqb-true, lt-leb, le-leb, leb-true, leb-false, lt-ltb, le-ltb, ltb-true, ltb-false, not-true, not-false}
+use borrow.Author.Tests.{eq-eqb, eqb-true, lt-leb, le-leb, leb-true, lt-ltb, le-ltb, ltb-true, ltb-false, not-true, not-false}
 use lib.Dec.{eqb, leb, ltb}
 use lib.ListN.{length}
 use Rattle.rules.specs.Word.{word, kindOf, bitOf, payloadOf, sizeOf, faultyAmount, faultyDays}
 use Rattle.rules.specs.Faults.{cause, financingTradeFault}
 use Rattle.rules.specs.Read.{lacks, financingTradeAt}
 use Rattle.rules.proofs.Lists.{and-left, and-right, or-left, or-right}
-use Rattle.words.proofs.Both.{as-both, plain-is}
+use Rattle.words.proofs.Both.{as-both, head-is, plain-is}
 use Rattle.records.specs.Step.{plainAmount}
 use Rattle.records.proofs.Words.{lacking-short}
 use Rattle.financing.specs.declared.read.FinancingTradeWords.{FinancingTradeWords}
@@ -21,10 +21,7 @@ use Rattle.financing.specs.Good.{ownMost, ownWithin, goodDays, goodTrade
 -- ---- the tests one by one
 
 pub trade-head : (w : ℕ) → eqb (w / 2 ^ 1) 1207959552 ≡ (eqb (kindOf w) 9 && not (leb 2 (payloadOf w)))
-trade-head w =
-    as-both (eqb (w / 2 ^ 1) 1207959552) (eqb (kindOf w) 9) (not (leb 2 (payloadOf w)))
-    (λ e. let h = eqb-true (w / 2 ^ 1) 1207959552 e in (eq-eqb (w / 2 ^ 28) 9 (omega arith), simp (lt-leb 2 (w % 2 ^ 28) (omega arith))))
-    (λ a b. let k = eqb-true (w / 2 ^ 28) 9 a in let l = leb-false 2 (w % 2 ^ 28) (not-true _ b) in eq-eqb (w / 2 ^ 1) 1207959552 (omega arith))
+trade-head w = head-is w 9 2 1207959552 (λ e. (omega arith, omega arith)) (λ k l. omega arith)
 
 days-are : (last d : ℕ) → goodDays last d ≡ (eqb (kindOf d) 0 && not (faultyDays d) && not (ltb (sizeOf d) last))
 days-are last d =

@@ -5,7 +5,7 @@ use mathlib.Core.Bool.{Bool, true, false, not, _&&_, _||_, cond, and-false}
 use mathlib.Core.List.{List}
 use native.Mathlib.Nat.{add-zero, mul-le-mul-right}
 use native.Mathlib.Omega.{arith}
-use borrow.Author.Tests.{eq-eqb, eqb-true, lt-leb, le-leb, leb-true, leb-false, lt-ltb, ltb-true, ltb-false, not-true}
+use borrow.Author.Tests.{lt-leb, le-leb, leb-true, lt-ltb, ltb-true, ltb-false}
 use lib.Dec.{eqb, leb, ltb}
 use lib.ListN.{length, drop, length-drop}
 use lib.Seq.{getD-drop}
@@ -14,7 +14,7 @@ use Rattle.rules.specs.Faults.{cause, assetFault, offBalanceFault}
 use Rattle.rules.specs.Read.{lacks, assetAt}
 use Rattle.rules.specs.Rows.{assetRows}
 use Rattle.rules.proofs.Lists.{and-right}
-use Rattle.words.proofs.Both.{as-both}
+use Rattle.words.proofs.Both.{head-is}
 use Rattle.figures.proofs.Figures.{no-figure}
 use Rattle.records.specs.declared.assets.AssetWords.{AssetWords}
 use Rattle.records.specs.declared.commitments.OffBalanceWords.{OffBalanceWords}
@@ -24,16 +24,10 @@ use Rattle.records.proofs.Words.{lacking-short}
 -- ---- head words
 
 pub asset-head : (w : ℕ) → eqb (w / 2 ^ 1) 268435456 ≡ (eqb (kindOf w) 2 && not (leb 2 (payloadOf w)))
-asset-head w =
-    as-both (eqb (w / 2 ^ 1) 268435456) (eqb (kindOf w) 2) (not (leb 2 (payloadOf w)))
-    (λ e. let h = eqb-true (w / 2 ^ 1) 268435456 e in (eq-eqb (w / 2 ^ 28) 2 (omega arith), simp (lt-leb 2 (w % 2 ^ 28) (omega arith))))
-    (λ a b. let k = eqb-true (w / 2 ^ 28) 2 a in let l = leb-false 2 (w % 2 ^ 28) (not-true _ b) in eq-eqb (w / 2 ^ 1) 268435456 (omega arith))
+asset-head w = head-is w 2 2 268435456 (λ e. (omega arith, omega arith)) (λ k l. omega arith)
 
 pub off-balance-head : (w : ℕ) → eqb (w / 2 ^ 8) 10485760 ≡ (eqb (kindOf w) 10 && not (leb (2 ^ 8) (payloadOf w)))
-off-balance-head w =
-    as-both (eqb (w / 2 ^ 8) 10485760) (eqb (kindOf w) 10) (not (leb (2 ^ 8) (payloadOf w)))
-    (λ e. let h = eqb-true (w / 2 ^ 8) 10485760 e in (eq-eqb (w / 2 ^ 28) 10 (omega arith), simp (lt-leb (2 ^ 8) (w % 2 ^ 28) (omega arith))))
-    (λ a b. let k = eqb-true (w / 2 ^ 28) 10 a in let l = leb-false (2 ^ 8) (w % 2 ^ 28) (not-true _ b) in eq-eqb (w / 2 ^ 8) 10485760 (omega arith))
+off-balance-head w = head-is w 10 (2 ^ 8) 10485760 (λ e. (omega arith, omega arith)) (λ k l. omega arith)
 
 -- ---- a record whose words are not all there
 

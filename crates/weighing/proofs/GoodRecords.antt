@@ -4,14 +4,14 @@ use mathlib.Core.Path.{_≡_, refl, sym, _∙_}
 use mathlib.Core.Bool.{Bool, true, false, cond, not, _&&_, _||_, and-false, true≢false}
 use mathlib.Core.List.{List}
 use native.Mathlib.Omega.{arith}
-use borrow.Author.Tests.{eq-eqb, eqb-true, lt-leb, leb-false, lt-ltb, ltb-true, not-true}
+use borrow.Author.Tests.{eqb-true, lt-leb, lt-ltb, ltb-true, not-true, not-false}
 use lib.Dec.{eqb, leb, ltb}
 use lib.ListN.{length}
 use Rattle.rules.specs.Word.{kindOf, payloadOf, fieldOf, bitOf, sizeOf, faultyAmount, faultyDays, minusZero}
 use Rattle.rules.specs.Faults.{cause, tradeBitsFault, tradeFault, writtenFault, coverFault}
 use Rattle.rules.specs.Read.{lacks}
 use Rattle.rules.proofs.Lists.{and-right}
-use Rattle.words.proofs.Both.{as-both, plain-is}
+use Rattle.words.proofs.Both.{head-is, plain-is}
 use Rattle.records.specs.Step.{plainAmount}
 use Rattle.records.proofs.Words.{lacking-short}
 use Rattle.weighing.specs.declared.read.TradeWords.{TradeWords}
@@ -22,22 +22,13 @@ use Rattle.weighing.specs.Words.{tradeWords, tradeFaultOf, resetsOdd, go
 -- ---- head words: all bits from the first without a meaning on
 
 pub trade-head : (w : ℕ) → eqb (w / 2 ^ 13) 163840 ≡ (eqb (kindOf w) 5 && not (leb (2 ^ 13) (payloadOf w)))
-trade-head w =
-    as-both (eqb (w / 2 ^ 13) 163840) (eqb (kindOf w) 5) (not (leb (2 ^ 13) (payloadOf w)))
-    (λ e. let h = eqb-true (w / 2 ^ 13) 163840 e in (eq-eqb (w / 2 ^ 28) 5 (omega arith), simp (lt-leb (2 ^ 13) (w % 2 ^ 28) (omega arith))))
-    (λ a b. let k = eqb-true (w / 2 ^ 28) 5 a in let l = leb-false (2 ^ 13) (w % 2 ^ 28) (not-true _ b) in eq-eqb (w / 2 ^ 13) 163840 (omega arith))
+trade-head w = head-is w 5 (2 ^ 13) 163840 (λ e. (omega arith, omega arith)) (λ k l. omega arith)
 
 pub written-head : (w : ℕ) → eqb (w / 2 ^ 23) 192 ≡ (eqb (kindOf w) 6 && not (leb (2 ^ 23) (payloadOf w)))
-written-head w =
-    as-both (eqb (w / 2 ^ 23) 192) (eqb (kindOf w) 6) (not (leb (2 ^ 23) (payloadOf w)))
-    (λ e. let h = eqb-true (w / 2 ^ 23) 192 e in (eq-eqb (w / 2 ^ 28) 6 (omega arith), simp (lt-leb (2 ^ 23) (w % 2 ^ 28) (omega arith))))
-    (λ a b. let k = eqb-true (w / 2 ^ 28) 6 a in let l = leb-false (2 ^ 23) (w % 2 ^ 28) (not-true _ b) in eq-eqb (w / 2 ^ 23) 192 (omega arith))
+written-head w = head-is w 6 (2 ^ 23) 192 (λ e. (omega arith, omega arith)) (λ k l. omega arith)
 
 pub cover-head : (w : ℕ) → eqb (w / 2 ^ 12) 458752 ≡ (eqb (kindOf w) 7 && not (leb (2 ^ 12) (payloadOf w)))
-cover-head w =
-    as-both (eqb (w / 2 ^ 12) 458752) (eqb (kindOf w) 7) (not (leb (2 ^ 12) (payloadOf w)))
-    (λ e. let h = eqb-true (w / 2 ^ 12) 458752 e in (eq-eqb (w / 2 ^ 28) 7 (omega arith), simp (lt-leb (2 ^ 12) (w % 2 ^ 28) (omega arith))))
-    (λ a b. let k = eqb-true (w / 2 ^ 28) 7 a in let l = leb-false (2 ^ 12) (w % 2 ^ 28) (not-true _ b) in eq-eqb (w / 2 ^ 12) 458752 (omega arith))
+cover-head w = head-is w 7 (2 ^ 12) 458752 (λ e. (omega arith, omega arith)) (λ k l. omega arith)
 
 -- ---- words
 
@@ -157,13 +148,9 @@ module _ (ws : List ℕ) (at : ℕ) where
 
 -- ---- a record that stands, asked whether it is not without a fault: its cause is 0, or not
 
-none-not : (b : Bool) → not b ≡ false → b ≡ true
-none-not true e = refl
-none-not false e = absurd (true≢false e)
-
 module _ (stand : Bool) {good : Bool} {cause : ℕ} (q : good ≡ (stand && eqb cause 0)) where
   pub sound-none : not good ≡ false → cause ≡ 0
-  sound-none g = eqb-true cause 0 (and-right stand (eqb cause 0) (sym q ∙ none-not good g))
+  sound-none g = eqb-true cause 0 (and-right stand (eqb cause 0) (sym q ∙ not-false good g))
 
   pub sound-some : stand ≡ true → not good ≡ true → cause ≡ 0 → ⊥
   sound-some k g z = true≢false (sym (simp (k, z)) ∙ sym q ∙ not-true good g)

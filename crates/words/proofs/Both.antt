@@ -1,18 +1,27 @@
 -- One test of a word that is two others. Assumes nothing.
-use Prim.Native.Nat.{ℕ, _/_, _%_, _^_}
+use Prim.Native.Nat.{ℕ, _/_, _%_, _^_, _<_}
 use mathlib.Core.Path.{_≡_, refl, sym}
 use mathlib.Core.Bool.{Bool, true, false, not, _&&_, true≢false}
 use native.Mathlib.Omega.{arith}
 use borrow.Author.Tests.{eq-eqb, eqb-true, eqb-false, ne-eqb, le-leb, lt-leb, leb-true, leb-false, lt-ltb, le-ltb, ltb-true, ltb-false, not-true}
 use lib.Dec.{eqb, leb, ltb}
 use Rattle.rules.proofs.Lists.{and-left, and-right}
-use Rattle.rules.specs.Word.{kindOf, faultyAmount, faultyDays, minusZero}
+use Rattle.rules.specs.Word.{kindOf, payloadOf, faultyAmount, faultyDays, minusZero}
 
 pub as-both : (t a b : Bool) → (t ≡ true → (a ≡ true) × (b ≡ true)) → (a ≡ true → b ≡ true → t ≡ true) → t ≡ (a && b)
 as-both true a b f g = let h = f refl in simp (h .0, h .1)
 as-both false true true f g = absurd (true≢false (sym (g refl refl)))
 as-both false true false f g = refl
 as-both false false b f g = refl
+
+-- a head word of a kind whose payload is below a bound: as one test of all bits from there on. What is left to a caller is arithmetic of its own numbers.
+module _ (w kind bound whole : ℕ) where
+  pub head-is : (w / bound ≡ whole → (kindOf w ≡ kind) × (payloadOf w < bound)) → (kindOf w ≡ kind → payloadOf w < bound → w / bound ≡ whole)
+      → eqb (w / bound) whole ≡ (eqb (kindOf w) kind && not (leb bound (payloadOf w)))
+  head-is f g =
+      as-both (eqb (w / bound) whole) (eqb (kindOf w) kind) (not (leb bound (payloadOf w)))
+      (λ e. let h = f (eqb-true (w / bound) whole e) in (eq-eqb (kindOf w) kind (h .0), simp (lt-leb bound (payloadOf w) (h .1))))
+      (λ a b. eq-eqb (w / bound) whole (g (eqb-true (kindOf w) kind a) (leb-false bound (payloadOf w) (not-true _ b))))
 
 pub plain-is : (w : ℕ) → ltb w (2 ^ 27) ≡ (eqb (kindOf w) 0 && not (faultyAmount w))
 plain-is w =
