@@ -1,4 +1,6 @@
 // Baskets that pay at the n-th default among their names (request A.3), kind 11 of a derivative set.
+#![tactic(auto)]
+
 ghost use Rattle.std.specs.Prelude.{◌≡◌, suc};
 ghost use Rattle.records.specs.Readable.{Readable};
 ghost use Rattle.baskets.specs.Reading.{basket_read};

@@ -1,5 +1,7 @@
 // Request A.2, "A year is a calendar year": the days from a reporting date to the ends of its bands. The definition is
 // specs/Calendar.antt of the crate `rules`; what is claimed of it besides is in specs/Claims.antt.
+#![tactic(auto)]
+
 ghost use Rattle.std.specs.Prelude.{◌≡◌, ◌≤◌};
 ghost use Rattle.rules.specs.Calendar.{bands_of, last_date, leap_days};
 

@@ -1,4 +1,6 @@
 // Financing sets: securities financing trades with one counterparty (document 01, kinds 8 and 9, rows 12 to 15).
+#![tactic(auto)]
+
 ghost use Rattle.std.specs.Prelude.{◌≡◌};
 ghost use Rattle.rules.specs.declared.Bands.{Bands};
 ghost use Rattle.rules.specs.Word.{kind_of, word};

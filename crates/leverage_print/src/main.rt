@@ -1,4 +1,6 @@
 // Prints the template of the book on standard input (document 01, "The printing program").
+#![tactic(auto)]
+
 use filing::Answer;
 use filing::alone::file_alone;
 use libc::{STDIN_FILENO, STDOUT_FILENO};

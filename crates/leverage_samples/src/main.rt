@@ -3,6 +3,8 @@
 // not show here; the comparison through the static library holds it.
 //
 // `make samples` writes `books` and the lines expected, by the implementation in compare/.
+#![tactic(auto)]
+
 mod lines;
 mod sample;
 

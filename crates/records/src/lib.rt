@@ -1,5 +1,7 @@
 // Records of a book: whether all words of a record are there, the protections, and the two items that are one record, assets and
 // off-balance items.
+#![tactic(auto)]
+
 use rules::Sums;
 
 pub mod assets;

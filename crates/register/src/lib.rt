@@ -1,4 +1,6 @@
 // The lent register: the covers of a book are drawn from it one after the other, as the reading comes to them.
+#![tactic(auto)]
+
 use rules::causes;
 
 mod book;

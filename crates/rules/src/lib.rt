@@ -1,6 +1,8 @@
 // The rules of document 01 are the definitions in specs/, from Word to Filing and TwoDesks; the laws about them that several crates
 // cite are in proofs/. The structs here are those that both the definitions and the code speak of; the modules name the numbers of
 // document 01 for the code of all crates.
+#![tactic(auto)]
+
 pub mod amounts;
 pub mod causes;
 pub mod kinds;

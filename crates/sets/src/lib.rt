@@ -1,4 +1,6 @@
 // Request A.1, "Show me the set": the words of a set, as a part of the lent book.
+#![tactic(auto)]
+
 mod answer;
 pub mod bounds;
 pub mod search;

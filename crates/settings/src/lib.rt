@@ -1,4 +1,6 @@
 // Request A.12, "Which papers to chase": how many of the 64 settings of a derivative set's six marks lead to each verdict.
+#![tactic(auto)]
+
 mod answer;
 pub mod count;
 mod exposure;

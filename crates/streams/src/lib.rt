@@ -1,4 +1,6 @@
 // What the programs read and write: words out of bytes, and numbers in decimal digits.
+#![tactic(auto)]
+
 ghost use Rattle.std.specs.Prelude.{◌*◌, ◌≤◌, length};
 
 use libc::STDOUT_FILENO;
