@@ -18,7 +18,7 @@ fn refused(x: u64, gross: u64) -> bool
     either(x == REFUSAL, either(gross == 0, GROSS_LIMIT <= gross))
 }
 
-#[derive(Drop)]
+#[derive(Clone, Copy)]
 enum Way {
     Directly,
     Share,

@@ -9,7 +9,7 @@ use words::numbers::one_if;
 
 // The bits that any of their words has, which show a kind, a sign or a size that no grade has; and how many do not qualify, equal ones
 // separately.
-#[derive(Drop)]
+#[derive(Clone, Copy)]
 pub struct Grades {
     pub all: u32,
     pub failing: u32,

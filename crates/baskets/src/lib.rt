@@ -16,7 +16,7 @@ mod grades;
 mod read;
 
 // What a basket brings to its set, and the place behind it; or the number of its cause.
-#[derive(Drop)]
+#[derive(Clone, Copy)]
 pub enum BasketRead {
     Whole {
         value: u32,

@@ -8,7 +8,7 @@ use crate::grades::{Grades, counted, looked_at, with_grade};
 use rules::{lengths, payloads};
 use words::parts::field;
 
-#[derive(Drop)]
+#[derive(Clone, Copy)]
 pub struct BasketWords {
     pub head: u32,
     pub value: u32,

@@ -278,9 +278,12 @@ cover_of amount = record { at = 0; protection = 0; amount = amount }
 
 pub not_fewer : MoreCovers (cover_of 10 ∷ cover_of 20 ∷ []) (cover_of 20 ∷ []) → ⊥
 not_fewer (MoreCovers.both p a r) = omega arith
+not_fewer (MoreCovers.further x4) = elim x4 [ ]
 
 pub not_others : MoreCovers (cover_of 10 ∷ []) (cover_of 20 ∷ []) → ⊥
 not_others (MoreCovers.both p a r) = omega arith
+not_others (MoreCovers.further x4) = elim x4 [ ]
 
 pub not_by_another : MoreCovers (cover_of 10 ∷ []) (record { at = 0; protection = 1; amount = 10 } ∷ []) → ⊥
 not_by_another (MoreCovers.both p a r) = omega arith
+not_by_another (MoreCovers.further x4) = elim x4 [ ]

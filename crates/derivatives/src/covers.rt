@@ -15,7 +15,7 @@ use words::parts::field;
 
 // The written credit whose covers are being read, if there is one and so covers are allowed: where its record stands, what its covers so
 // far come to, and what they leave of its notional minus loss.
-#[derive(Drop)]
+#[derive(Clone, Copy)]
 pub struct OpenCredit {
     pub allowed: bool,
     pub place: usize,

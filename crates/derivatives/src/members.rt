@@ -19,7 +19,7 @@ use words::parts::kind;
 
 // The set with one member more; the next cover, and the set behind it; neither a trade nor a written credit, and the tally of all before; or
 // the number and the place of the first fault.
-#[derive(Drop)]
+#[derive(Clone, Copy)]
 pub enum MemberStep {
     Next(OpenSet),
     Cover(Draw, OpenSet),
@@ -152,7 +152,7 @@ fn written(part: &[u32], at: usize, t: Tally) -> MemberStep
 }
 
 // The set with a basket more; no basket; or the number of its cause.
-#[derive(Drop)]
+#[derive(Clone, Copy)]
 pub enum BasketStep {
     Next(OpenSet),
     None,

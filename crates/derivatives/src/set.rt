@@ -9,7 +9,7 @@ use weighing::tally::Tally;
 
 // A set that is being read: the place of its next member or cover, what its members so far come to, and the written credit whose
 // covers may follow, which is not in the tally yet. Places count from the set's head.
-#[derive(Drop)]
+#[derive(Clone, Copy)]
 pub struct OpenSet {
     pub at: usize,
     pub tally: Tally,
@@ -18,7 +18,7 @@ pub struct OpenSet {
 
 // The next cover of the set, and the set behind it; what all its members come to and the place behind them; or the number and the
 // place of the first fault.
-#[derive(Drop)]
+#[derive(Clone, Copy)]
 pub enum Weighed {
     Cover(Draw, OpenSet),
     Whole(Tally, usize),
@@ -27,7 +27,7 @@ pub enum Weighed {
 
 // The next cover of a stretch of trades and written credits, and the set behind it; what the set comes to up to a place where neither stands; or
 // the number and the place of the first fault.
-#[derive(Drop)]
+#[derive(Clone, Copy)]
 pub enum Stretch {
     Cover(Draw, OpenSet),
     Over(Tally, usize),

@@ -10,7 +10,7 @@ use weighing::read::trade_words;
 use weighing::tally::Tally;
 
 // What a set comes to with a run of trades, and the place behind the last.
-#[derive(Drop)]
+#[derive(Clone, Copy)]
 pub struct TradeRun {
     pub tally: Tally,
     pub next: usize,

@@ -9,7 +9,7 @@ mod report;
 mod stages;
 
 // Refused with a number at a place, or accepted with a verdict.
-#[derive(Drop)]
+#[derive(Clone, Copy)]
 pub enum Answer {
     Refused { number: u32, place: usize },
     Accepted(u32),

@@ -3,7 +3,7 @@ ghost use Rattle.std.specs.Prelude.{◌≡◌, ◌+◌};
 ghost use Rattle.records.specs.Readable.{Readable};
 ghost use Rattle.financing.specs.Words.{financing_trade_words};
 
-#[derive(Drop)]
+#[derive(Clone, Copy)]
 pub struct FinancingTradeWords {
     pub head: u32,
     pub asset: u32,

@@ -12,7 +12,7 @@ use words::parts::bit;
 
 // Gross assets less securities, value lent and value received, what was lent beyond what was received trade by trade; cash netted of
 // the days that are closed, and the day of the trade before with its receivables and payables.
-#[derive(Drop)]
+#[derive(Clone, Copy)]
 pub struct FinancingTally {
     pub assets: u64,
     pub lent: u64,

@@ -14,7 +14,7 @@ use words::numbers::one_if;
 use words::parts::bit;
 
 // What the trades of a set come to: their tally and the place behind them, or the number and the place of the first fault.
-#[derive(Drop)]
+#[derive(Clone, Copy)]
 pub enum Weighed {
     Whole(FinancingTally, usize),
     Refused { number: u32, place: usize },

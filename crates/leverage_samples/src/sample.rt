@@ -5,7 +5,7 @@ use crate::lines::print_line;
 use filing::alone::file_alone;
 use streams::{gather, word_of};
 
-#[derive(Drop)]
+#[derive(Clone, Copy)]
 struct Heading {
     rows: usize,
     words: usize,

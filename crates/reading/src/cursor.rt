@@ -10,7 +10,7 @@ use records::sums::no_sums;
 use rules::{Bands, Draw, Sums, causes, limits};
 
 // Before the protections; where an item is due, with the sums of those before; or inside a derivative set, whose head stands there.
-#[derive(Drop)]
+#[derive(Clone, Copy)]
 pub struct Cursor {
     pub begun: bool,
     pub inside: bool,
@@ -21,7 +21,7 @@ pub struct Cursor {
 }
 
 // Whether there is a further cover; if so the cover as a draw, and the cursor behind it, else what the reading comes to.
-#[derive(Drop)]
+#[derive(Clone, Copy)]
 pub struct NextCover {
     pub some: bool,
     pub draw: Draw,

@@ -16,7 +16,7 @@ use words::numbers::either;
 use words::parts::{kind, payload};
 
 // Some items, with the sums that have them and the place behind them; the head of a derivative set; the end word; or a fault.
-#[derive(Drop)]
+#[derive(Clone, Copy)]
 pub enum ItemAnswer {
     More(Sums, usize),
     Set,

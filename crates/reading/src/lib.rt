@@ -11,7 +11,7 @@ mod runs;
 mod steps;
 
 // What a book comes to: admitted with its sums, or refused with a number at a place.
-#[derive(Drop)]
+#[derive(Clone, Copy)]
 pub enum Admission {
     Admitted(Sums),
     Refused { number: u32, place: usize },

@@ -10,7 +10,7 @@ use rules::{causes, kinds, lengths, limits};
 use words::parts::kind;
 
 // What stands where a protection is due, and how far the protections reach.
-#[derive(Drop)]
+#[derive(Clone, Copy)]
 pub enum Protections {
     Upto(usize),
     Refused { number: u32, place: usize },

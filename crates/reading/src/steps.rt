@@ -14,7 +14,7 @@ use weighing::read::set_words;
 use weighing::rows::set_sums;
 
 // The cursor further on; the next cover, and the cursor behind it; or what the reading comes to.
-#[derive(Drop)]
+#[derive(Clone, Copy)]
 pub enum Step {
     On(Cursor),
     Cover(Draw, Cursor),

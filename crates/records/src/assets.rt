@@ -19,7 +19,7 @@ use words::parts::{bit, payload};
 const HEAD: u32 = kinds::ASSET << 27;
 
 // The words of an asset.
-#[derive(Drop)]
+#[derive(Clone, Copy)]
 pub struct AssetWords {
     pub head: u32,
     pub carrying: u32,

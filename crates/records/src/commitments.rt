@@ -23,7 +23,7 @@ use words::parts::{field, payload};
 const HEAD: u32 = kinds::OFF_BALANCE << 20;
 
 // The words of an off-balance item.
-#[derive(Drop)]
+#[derive(Clone, Copy)]
 pub struct OffBalanceWords {
     pub head: u32,
     pub notional: u32,

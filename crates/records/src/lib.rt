@@ -12,7 +12,7 @@ pub mod sums;
 
 // What stands at an item's head: what the item brings to the sums and the place behind it, or the number and the place of the first fault.
 // Places count from the item's head.
-#[derive(Drop)]
+#[derive(Clone, Copy)]
 pub enum ItemStep {
     Next(Sums, usize),
     Refused { number: u32, place: usize },

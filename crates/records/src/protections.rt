@@ -12,7 +12,7 @@ use words::numbers::either;
 use words::parts::payload;
 
 // The words of a protection.
-#[derive(Drop)]
+#[derive(Clone, Copy)]
 pub struct ProtectionWords {
     pub head: u32,
     pub notional: u32,

@@ -9,7 +9,7 @@ use rules::{Draw, Entry, causes};
 use words::numbers::short_of;
 
 // An entry after a draw, and the number of the cause where the draw does not fit.
-#[derive(Drop)]
+#[derive(Clone, Copy)]
 pub struct Drawn {
     pub entry: Entry,
     pub number: u32,

@@ -8,7 +8,7 @@ pub mod show;
 pub mod sought;
 
 // The number and the place that are answered, and the stretch: the place in the book of its first word, and the place after its last.
-#[derive(Drop)]
+#[derive(Clone, Copy)]
 pub struct Shown {
     pub number: u32,
     pub place: usize,

@@ -16,7 +16,7 @@ const GLANCE: usize = 32;
 const KINDS_FROM_4: u32 = 1 << 30;
 
 // Where a search stands, and how many words that pass are still to be left behind.
-#[derive(Drop)]
+#[derive(Clone, Copy)]
 struct Stand {
     at: usize,
     left: usize,

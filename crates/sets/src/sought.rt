@@ -9,7 +9,7 @@ use words::numbers::either;
 use words::parts::kind;
 
 // The head of a set; or the first word behind a set. Behind a financing set two kinds are looked at instead of five, which is faster.
-#[derive(Drop)]
+#[derive(Clone, Copy)]
 pub enum Sought {
     Set,
     EndOfDerivatives,

@@ -14,7 +14,7 @@ use words::parts::{bit, field};
 
 // Of what its exposure is made, in thousandths, whatever its marks: replacement and the add-on that is kept in without netting, with netting, and with
 // margin taken off besides; cash margin paid; and collateral posted with what covers leave of written notional less loss.
-#[derive(Drop)]
+#[derive(Clone, Copy)]
 pub struct Pieces {
     pub gross: u64,
     pub netted: u64,

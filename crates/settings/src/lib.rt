@@ -8,7 +8,7 @@ mod members;
 mod verdicts;
 
 // The number and the place that are answered, and how many settings lead to verdict 0, to verdict 1 and to verdict 2.
-#[derive(Drop)]
+#[derive(Clone, Copy)]
 pub struct Counted {
     pub number: u32,
     pub place: usize,

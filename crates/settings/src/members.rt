@@ -17,21 +17,21 @@ use words::amount::size;
 use words::numbers::wide;
 
 // What the members before a place come to, and that place, which counts from the set's head.
-#[derive(Drop)]
+#[derive(Clone, Copy)]
 pub struct Upto {
     pub tally: Tally,
     pub at: usize,
 }
 
 // The tally with a member more; or no member stands there.
-#[derive(Drop)]
+#[derive(Clone, Copy)]
 pub enum NextMember {
     Some(Upto),
     None,
 }
 
 // What covers come to, and the place behind the last.
-#[derive(Drop)]
+#[derive(Clone, Copy)]
 pub struct Covers {
     pub amount: u64,
     pub next: usize,

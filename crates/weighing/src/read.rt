@@ -4,7 +4,7 @@ ghost use Rattle.records.specs.Readable.{Readable};
 ghost use Rattle.weighing.specs.Words.{cover_words, set_words, trade_words, written_words};
 
 // Kind 4.
-#[derive(Drop)]
+#[derive(Clone, Copy)]
 pub struct SetWords {
     pub head: u32,
     pub received: u32,
@@ -13,7 +13,7 @@ pub struct SetWords {
 }
 
 // Kind 5.
-#[derive(Drop)]
+#[derive(Clone, Copy)]
 pub struct TradeWords {
     pub head: u32,
     pub value: u32,
@@ -23,7 +23,7 @@ pub struct TradeWords {
 }
 
 // Kind 6.
-#[derive(Drop)]
+#[derive(Clone, Copy)]
 pub struct WrittenWords {
     pub head: u32,
     pub value: u32,
@@ -34,7 +34,7 @@ pub struct WrittenWords {
 }
 
 // Kind 7.
-#[derive(Drop)]
+#[derive(Clone, Copy)]
 pub struct CoverWords {
     pub head: u32,
     pub amount: u32,

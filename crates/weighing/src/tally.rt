@@ -17,7 +17,7 @@ use words::parts::{bit, field};
 
 // The gains and losses of the values, the gross add-on, what does not stay in of those of written credits, notional less loss of
 // written credits, and their covers. Add-ons are in thousandths, all else in units.
-#[derive(Drop)]
+#[derive(Clone, Copy)]
 pub struct Tally {
     pub gains: u64,
     pub losses: u64,

@@ -3,7 +3,7 @@
 ghost use Rattle.std.specs.Prelude.{◌≡◌, ◌+◌, ◌*◌, ◌/◌, ◌%◌, ◌^◌, ◌≤◌, ◌<◌, min};
 
 // x * p / q and x * p % q
-#[derive(Drop)]
+#[derive(Clone, Copy)]
 pub struct Parts {
     pub quotient: u64,
     pub remainder: u64,
