@@ -1,0 +1,7 @@
+use native.Mathlib.Omega.{arith}
+use Rattle.records.proofs.Good.{deducted_is}
+use borrow.Author.Rules.{rules}
+use Rattle.records.proofs.assets.deducted_by.Goals as goal
+
+pub returns : goal.returns
+returns c = deducted_is _ (omega arith)

@@ -1,0 +1,15 @@
+use Prim.Native.Nat.{◌+◌, ◌≤◌, ◌<◌}
+use mathlib.Core.Path.{◌≡◌, refl}
+use mathlib.Core.Bool.{◌||◌}
+use native.Mathlib.Omega.{arith}
+use borrow.Author.Rules.{rules}
+use lib.ListN.{length}
+use Rattle.rules.specs.Read.{lacks}
+use Rattle.records.proofs.Words.{lacking_short, lacking_next, lacking_end}
+use Rattle.records.proofs.presence.lacking.Given as goal
+
+abbrev pub invariant-loop-i : goal.invariant-loop-i
+invariant-loop-i l = (l.i ≤ l.n) × ((l.at + l.n < length l.ws) × (lacks l.n l.ws l.at ≡ (l.other || lacks l.i l.ws l.at)))
+
+abbrev pub decreases-loop-i : goal.decreases-loop-i
+decreases-loop-i l = l.i
