@@ -1,0 +1,6 @@
+use borrow.Author.Rules.{rules}
+use Rattle.heads.proofs.DateLaws.{faulty_is}
+use Rattle.heads.proofs.head.date_faulty.Goals as goal
+
+pub returns : goal.returns
+returns c = rw c.word_at-date.ensures (faulty_is c.args.book.now)

@@ -1,0 +1,6 @@
+use Rattle.records.proofs.Words.{whole, cause_lacking, cause_there}
+use borrow.Author.Rules.{rules}
+use Rattle.weighing.proofs.faults.trade_cause.Goals as goal
+
+pub trade_words-requires : goal.trade_words-requires
+trade_words-requires c = whole 4 c.lacking.ensures c.if-lacking.false c.requires

@@ -1,0 +1,6 @@
+use Rattle.records.proofs.Words.{whole, cause_lacking, cause_there}
+use borrow.Author.Rules.{rules}
+use Rattle.weighing.proofs.faults.written_cause.Goals as goal
+
+pub written_words-requires : goal.written_words-requires
+written_words-requires c = whole 5 c.lacking.ensures c.if-lacking.false c.requires

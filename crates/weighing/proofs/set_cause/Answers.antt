@@ -1,0 +1,6 @@
+use Rattle.records.proofs.Words.{whole, cause_lacking, cause_there}
+use borrow.Author.Rules.{rules}
+use Rattle.weighing.proofs.set_cause.Goals as goal
+
+pub set_words-requires : goal.set_words-requires
+set_words-requires c = whole 3 c.lacking.ensures c.if-lacking.false c.requires
