@@ -1,0 +1,10 @@
+use Rattle.derivatives.proofs.Turns.{head_there}
+use Rattle.derivatives.proofs.TradeRuns.{run_refused, run_moved}
+use borrow.Author.Rules.{rules}
+use Rattle.derivatives.proofs.members.trade.Goals as goal
+
+pub returns-then-next-at : goal.returns-then-next-at
+returns-then-next-at c = run_refused c.requires.1 c.trades-run.ensures c.requires.0 c.if-next-at.true c.trade_cause.ensures
+
+pub returns : goal.returns
+returns c = run_moved c.requires.1 c.trades-run.ensures c.if-next-at.false c.none.ensures
