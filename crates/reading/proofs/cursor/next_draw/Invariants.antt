@@ -1,0 +1,11 @@
+use mathlib.Core.Path.{refl}
+use borrow.Author.Rules.{rules}
+use Rattle.reading.specs.Ahead.{left}
+use Rattle.reading.proofs.CursorLaws.{Reached, goes_on, found_cover, found_end}
+use Rattle.reading.proofs.cursor.next_draw.Given as goal
+
+abbrev pub invariant-loop-next : goal.invariant-loop-next
+invariant-loop-next l = Reached l.book l.initial.c l.c
+
+abbrev pub decreases-loop-next : goal.decreases-loop-next
+decreases-loop-next l = left l.book l.c
