@@ -1,5 +1,5 @@
-pub mod Calls
+pub mod Cleared
 pub mod Loaded
-pub mod Rows
 pub mod Settling
 pub mod Start
+pub mod Turns

@@ -7,8 +7,7 @@ use Rattle.rules.specs.declared.Draw.{Draw}
 use Rattle.rules.specs.declared.Entry.{Entry}
 use Rattle.rules.specs.Faults.{cause}
 use Rattle.rules.specs.Register.{unfit_for}
-use Rattle.register.proofs.entries.unfit.Statement.{statement}
-use Rattle.register.proofs.entries.unfit.Tie as tie
+use Rattle.register.proofs.entries.unfit.Goals as goal
 
 module _ (e : Entry) (d : Draw) where
   other-entity : (e.entity ≡ d.entity → ⊥) → 12 ≡ unfit_for e d
@@ -38,23 +37,20 @@ module _ (e : Entry) (d : Draw) where
         unfolding unfit_for cause
         fits l m = simp (eq-eqb e.entity d.entity s, le-ltb e.rank d.rank r, le-ltb e.days d.days t, le-ltb e.left d.amount l, le-ltb d.room d.amount m)
 
-returns : tie.Need-returns
-returns c = other-entity _ _ c.if1.true
+pub returns-then-e-d : goal.returns-then-e-d
+returns-then-e-d c = other-entity _ _ c.if-e-d.true
 
-returns-2 : tie.Need-returns-2
-returns-2 c = more-senior _ _ (omega arith) (omega arith)
+pub returns-then-e-d-2 : goal.returns-then-e-d-2
+returns-then-e-d-2 c = more-senior _ _ (omega arith) (omega arith)
 
-returns-3 : tie.Need-returns-3
-returns-3 c = too_short _ _ (omega arith) (omega arith) (omega arith)
+pub returns-then-e-d-3 : goal.returns-then-e-d-3
+returns-then-e-d-3 c = too_short _ _ (omega arith) (omega arith) (omega arith)
 
-returns-4 : tie.Need-returns-4
-returns-4 c = beyond-left _ _ (omega arith) (omega arith) (omega arith) (omega arith)
+pub returns-then-e-d-4 : goal.returns-then-e-d-4
+returns-then-e-d-4 c = beyond-left _ _ (omega arith) (omega arith) (omega arith) (omega arith)
 
-returns-5 : tie.Need-returns-5
-returns-5 c = beyond-room _ _ (omega arith) (omega arith) (omega arith) (omega arith) (omega arith)
+pub returns-then-d : goal.returns-then-d
+returns-then-d c = beyond-room _ _ (omega arith) (omega arith) (omega arith) (omega arith) (omega arith)
 
-returns-6 : tie.Need-returns-6
-returns-6 c = fits _ _ (omega arith) (omega arith) (omega arith) (omega arith) (omega arith)
-
-pub unfit-spec : {M : Type 1} → statement M
-unfit-spec = tie.close (tie.spec returns returns-2 returns-3 returns-4 returns-5 returns-6)
+pub returns : goal.returns
+returns c = fits _ _ (omega arith) (omega arith) (omega arith) (omega arith) (omega arith)

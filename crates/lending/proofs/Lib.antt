@@ -1,5 +1,0 @@
-pub mod Known
-pub mod Relend
-pub mod Lent
-pub mod GivenAway
-pub mod LentArray
