@@ -13,14 +13,14 @@ use Rattle.reading.specs.declared.Admission.{Admission}
 use Rattle.reading.specs.declared.Admission.TheVariants.{Admitted}
 use Rattle.reading.specs.declared.Admission.TheVariants as admission
 use Rattle.filing.specs.declared.Answer.TheVariants.{Refused, Accepted}
-use Rattle.filing.specs.Answers.{answerTo, rows_to, AdmissionFits}
+use Rattle.filing.specs.Answers.{answer_to, rows_to, AdmissionFits}
 
 module _ (head : Head) (rows : List ℤ) (a : Admission) where
-  pub to_refused : (number place : ℕ) → a ≡ admission.Refused number place → (Refused number place ≡ answerTo head a) × (rows ≡ rows_to head a rows)
+  pub to_refused : (number place : ℕ) → a ≡ admission.Refused number place → (Refused number place ≡ answer_to head a) × (rows ≡ rows_to head a rows)
   to_refused number place e = rw e (refl, refl)
 
   pub to_admitted : (s : Sums) → a ≡ Admitted s → (v : ℕ) (rows' : List ℤ) → v ≡ verdict_of (tier1_of head.gain head.loss) (exposure_row s) → rows' ≡ rows_of s head.gain head.loss ++ drop 22 rows
-      → (Accepted v ≡ answerTo head a) × (rows' ≡ rows_to head a rows)
+      → (Accepted v ≡ answer_to head a) × (rows' ≡ rows_to head a rows)
   to_admitted s e v rows' vq wq = rw e (ap Accepted vq, wq)
 
 pub fits_admitted : (a : Admission) (s : Sums) → a ≡ Admitted s → AdmissionFits a → SumsFit s

@@ -21,7 +21,7 @@ use Rattle.template.specs.Sections.{SumsFit}
 use Rattle.reading.specs.declared.Admission.{Admission}
 use Rattle.filing.specs.declared.Answer.{Answer}
 use Rattle.filing.specs.declared.Answer.TheVariants.{Refused}
-use Rattle.filing.specs.Answers.{admissionOf, answerTo, rows_to, AdmissionFits, filed}
+use Rattle.filing.specs.Answers.{admission_of, answer_to, rows_to, AdmissionFits, filed}
 
 -- ---- the sums of an accepted book fit the rows
 
@@ -41,14 +41,14 @@ small ws rows entries items left e =
     }
 
 -- what is admitted can be published
-pub admission_fits : (ws : List ℕ) (rows entries : ℕ) → 22 ≤ rows → (a : Admission) → a ≡ admissionOf (head_of ws).bands (admission ws entries) → AdmissionFits a
+pub admission_fits : (ws : List ℕ) (rows entries : ℕ) → 22 ≤ rows → (a : Admission) → a ≡ admission_of (head_of ws).bands (admission ws entries) → AdmissionFits a
 unfolding outcome_of
 admission_fits ws rows entries h a q = rw q (go (admission ws entries) refl)
   where
     whole : (o : Outcome) → admission ws entries ≡ o → outcome_of ws rows entries ≡ o
     whole o e = simp (le-ltb rows 22 h) e
 
-    go : (o : Outcome) → admission ws entries ≡ o → AdmissionFits (admissionOf (head_of ws).bands o)
+    go : (o : Outcome) → admission ws entries ≡ o → AdmissionFits (admission_of (head_of ws).bands o)
     go (early number) e = tt
     go (refused number place) e = tt
     go (accepted items left) e = small ws rows entries items left (whole (accepted items left) e)
@@ -60,13 +60,13 @@ unfolding filing outcome_of
 filed_short ws rows register h = simp (lt-ltb (length rows) 22 h)
 
 pub filed_whole : (ws : List ℕ) (rows rows' : List ℤ) (register register' : List Entry) → 22 ≤ length rows
-    → (a : Admission) → a ≡ admissionOf (head_of ws).bands (admission ws (length register)) → register' ≡ register_after (head_of ws) (admission ws (length register)) register
-    → (r : Answer) → r ≡ answerTo (head_of ws) a → rows' ≡ rows_to (head_of ws) a rows
+    → (a : Admission) → a ≡ admission_of (head_of ws).bands (admission ws (length register)) → register' ≡ register_after (head_of ws) (admission ws (length register)) register
+    → (r : Answer) → r ≡ answer_to (head_of ws) a → rows' ≡ rows_to (head_of ws) a rows
     → filed r rows' register' ≡ filing ws rows register
 unfolding filing outcome_of
 filed_whole ws rows rows' register register' h a aq gq r rq wq = simp (le-ltb (length rows) 22 h) (rw (gq, rq, wq, aq) (go (admission ws (length register))))
   where
-    go : (o : Outcome) → filed (answerTo (head_of ws) (admissionOf (head_of ws).bands o)) (rows_to (head_of ws) (admissionOf (head_of ws).bands o) rows) (register_after (head_of ws) o register) ≡ filing_of (head_of ws) o rows register
+    go : (o : Outcome) → filed (answer_to (head_of ws) (admission_of (head_of ws).bands o)) (rows_to (head_of ws) (admission_of (head_of ws).bands o) rows) (register_after (head_of ws) o register) ≡ filing_of (head_of ws) o rows register
     go (early number) = refl
     go (refused number place) = refl
     go (accepted items left) = refl

@@ -3,4 +3,3 @@ pub mod Loads
 pub mod StageLaws
 pub mod FilingLaws
 pub mod CaseLaws
-pub mod FilingCalls

@@ -26,13 +26,13 @@ use Rattle.reading.specs.Ahead.{Ahead, records_ahead}
 use Rattle.register.specs.Loading.{loaded_from}
 use Rattle.register.specs.Draws.{first_fault, left_by, reading_after, left_after}
 use Rattle.register.proofs.Loaded.{loaded_length}
-use Rattle.filing.specs.Answers.{earlyNumber, refusedIn, admissionOf}
+use Rattle.filing.specs.Answers.{early_number, refused_in, admission_of}
 use Rattle.filing.proofs.Loads.{records_are}
 
 -- ---- before the records
 
-pub refused_early : (ws : List ℕ) (entries r : ℕ) → r ≡ earlyNumber ws entries → (r ≡ 0 → ⊥) → admission ws entries ≡ early r
-unfolding earlyNumber admission
+pub refused_early : (ws : List ℕ) (entries r : ℕ) → r ≡ early_number ws entries → (r ≡ 0 → ⊥) → admission ws entries ≡ early r
+unfolding early_number admission
 refused_early ws entries r q n = rw q (go (ltb (2 ^ 20) (length ws)) (head_faulty ws) (date_faulty ws) (ltb entries (head_of ws).protections) (λ z. n (q ∙ z)))
   where
     go : (a b d c : Bool) → (◌≡◌ {A = ℕ} (cond a 2 (cond b 3 (cond d 16 (cond c 4 0)))) 0 → ⊥)
@@ -50,8 +50,8 @@ pub record Looked (ws : List ℕ) (entries : ℕ) : Type 0 where
   pub room : (head_of ws).protections ≤ entries
   pub outcome : admission ws entries ≡ records_outcome ws
 
-pub looked_at_lem : (ws : List ℕ) (entries r : ℕ) → r ≡ earlyNumber ws entries → r ≡ 0 → Looked ws entries
-unfolding earlyNumber admission
+pub looked_at_lem : (ws : List ℕ) (entries r : ℕ) → r ≡ early_number ws entries → r ≡ 0 → Looked ws entries
+unfolding early_number admission
 looked_at_lem ws entries r q z = go (ltb (2 ^ 20) (length ws)) refl (head_faulty ws) refl (date_faulty ws) refl (ltb entries (head_of ws).protections) refl (sym q ∙ z)
   where
     go : (a : Bool) → ltb (2 ^ 20) (length ws) ≡ a → (b : Bool) → head_faulty ws ≡ b → (d : Bool) → date_faulty ws ≡ d → (c : Bool) → ltb entries (head_of ws).protections ≡ c
@@ -86,38 +86,38 @@ module _ (head : Head) (r : Run Placed) where
   abbrev comes : Settled → Admission
   comes s = first_fault (reading_of head.bands r) s
 
-  judged_is : (s : Settled) → comes s ≡ admissionOf head.bands (judged r s)
+  judged_is : (s : Settled) → comes s ≡ admission_of head.bands (judged r s)
   unfolding reading_of
   judged_is (unfit number place) = refl
   judged_is (settled left) = go (eqb r.number 0)
     where
       go : (x : Bool) → (cond x (Admitted (sums_of head.bands r.records)) (Refused r.number r.place))
-          ≡ admissionOf head.bands (cond x (accepted r.records left) (refused r.number r.place))
+          ≡ admission_of head.bands (cond x (accepted r.records left) (refused r.number r.place))
       go true = refl
       go false = refl
 
   -- the register with `es` for its first entries; and after the clearing
   module _ (es before : List Entry) where
-    kept : (s : Settled) → ((left : List Entry) → s ≡ settled left → es ≡ left) → refusedIn (comes s) ≡ false → es ++ drop head.protections before ≡ register_after head (judged r s) before
+    kept : (s : Settled) → ((left : List Entry) → s ≡ settled left → es ≡ left) → refused_in (comes s) ≡ false → es ++ drop head.protections before ≡ register_after head (judged r s) before
     unfolding reading_of
     kept (unfit number place) q e = absurd (true≢false e)
     kept (settled left) q e = rw (q left refl) (go (eqb r.number 0) e)
       where
-        go : (x : Bool) → refusedIn (cond x (Admitted (sums_of head.bands r.records)) (Refused r.number r.place)) ≡ false
+        go : (x : Bool) → refused_in (cond x (Admitted (sums_of head.bands r.records)) (Refused r.number r.place)) ≡ false
             → left ++ drop head.protections before ≡ register_after head (cond x (accepted r.records left) (refused r.number r.place)) before
         go true e = refl
         go false e = absurd (true≢false e)
 
-    cleared : length es ≡ head.protections → (s : Settled) → refusedIn (comes s) ≡ true
+    cleared : length es ≡ head.protections → (s : Settled) → refused_in (comes s) ≡ true
         → replicate head.protections blank ++ drop head.protections (es ++ drop head.protections before) ≡ register_after head (judged r s) before
     unfolding reading_of
     cleared len s e = ap (λ (l : List Entry). replicate head.protections blank ++ l) (drop_at es (drop head.protections before) head.protections len) ∙ by_fault s e
       where
-        by_fault : (s : Settled) → refusedIn (comes s) ≡ true → replicate head.protections blank ++ drop head.protections before ≡ register_after head (judged r s) before
+        by_fault : (s : Settled) → refused_in (comes s) ≡ true → replicate head.protections blank ++ drop head.protections before ≡ register_after head (judged r s) before
         by_fault (unfit number place) e = refl
         by_fault (settled left) e = go (eqb r.number 0) e
           where
-            go : (x : Bool) → refusedIn (cond x (Admitted (sums_of head.bands r.records)) (Refused r.number r.place)) ≡ true
+            go : (x : Bool) → refused_in (cond x (Admitted (sums_of head.bands r.records)) (Refused r.number r.place)) ≡ true
                 → replicate head.protections blank ++ drop head.protections before ≡ register_after head (cond x (accepted r.records left) (refused r.number r.place)) before
             go true e = absurd (true≢false (sym e))
             go false e = refl
@@ -150,8 +150,8 @@ module _ (ws : List ℕ) (entries : ℕ) (k : Looked ws entries) where
   the_entries = ap (λ (a : Ahead). left_by (loaded_from ws b 0) a.draws) (records_ahead_lem ws)
 
   module _ (r : Admission) (rq : r ≡ reading_after ws b) where
-    pub admitted : r ≡ admissionOf (head_of ws).bands (admission ws entries)
-    admitted = rq ∙ the_reading ∙ judged_is (head_of ws) (items_of ws) s ∙ ap (admissionOf (head_of ws).bands) (sym the_outcome)
+    pub admitted : r ≡ admission_of (head_of ws).bands (admission ws entries)
+    admitted = rq ∙ the_reading ∙ judged_is (head_of ws) (items_of ws) s ∙ ap (admission_of (head_of ws).bands) (sym the_outcome)
 
     module _ (before after : List Entry) (aq : after ≡ left_after ws b ++ drop b before) where
       after_is : after ≡ left_by (loaded_from ws b 0) ds ++ drop b before
@@ -160,11 +160,11 @@ module _ (ws : List ℕ) (entries : ℕ) (k : Looked ws entries) where
       to_outcome : register_after (head_of ws) (judged (items_of ws) s) before ≡ register_after (head_of ws) (admission ws entries) before
       to_outcome = ap (λ (o : Outcome). register_after (head_of ws) o before) (sym the_outcome)
 
-      pub register_left : refusedIn r ≡ false → after ≡ register_after (head_of ws) (admission ws entries) before
+      pub register_left : refused_in r ≡ false → after ≡ register_after (head_of ws) (admission ws entries) before
       register_left e =
-          after_is ∙ kept (head_of ws) (items_of ws) (left_by (loaded_from ws b 0) ds) before s (left_settled (loaded_from ws b 0) ds) (sym (ap refusedIn (rq ∙ the_reading)) ∙ e) ∙ to_outcome
+          after_is ∙ kept (head_of ws) (items_of ws) (left_by (loaded_from ws b 0) ds) before s (left_settled (loaded_from ws b 0) ds) (sym (ap refused_in (rq ∙ the_reading)) ∙ e) ∙ to_outcome
 
-      pub register_cleared : refusedIn r ≡ true → replicate b blank ++ drop b after ≡ register_after (head_of ws) (admission ws entries) before
+      pub register_cleared : refused_in r ≡ true → replicate b blank ++ drop b after ≡ register_after (head_of ws) (admission ws entries) before
       register_cleared e =
           ap (λ (l : List Entry). replicate b blank ++ drop b l) after_is
-          ∙ cleared (head_of ws) (items_of ws) (left_by (loaded_from ws b 0) ds) before (left_length (loaded_from ws b 0) ds ∙ loaded_length ws b 0) s (sym (ap refusedIn (rq ∙ the_reading)) ∙ e) ∙ to_outcome
+          ∙ cleared (head_of ws) (items_of ws) (left_by (loaded_from ws b 0) ds) before (left_length (loaded_from ws b 0) ds ∙ loaded_length ws b 0) s (sym (ap refused_in (rq ∙ the_reading)) ∙ e) ∙ to_outcome

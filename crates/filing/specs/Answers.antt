@@ -25,35 +25,35 @@ abbrev pub place_in : Answer → ℕ
 place_in (Refused number place) = place
 place_in (Accepted verdict) = 0
 
-abbrev pub verdictOfAnswer : Answer → ℕ
-verdictOfAnswer (Refused number place) = 3
-verdictOfAnswer (Accepted verdict) = verdict
+abbrev pub verdict_of_answer : Answer → ℕ
+verdict_of_answer (Refused number place) = 3
+verdict_of_answer (Accepted verdict) = verdict
 
 -- ---- the stages
 
 -- the number 2, 3, 16 or 4, or 0 where the records are looked at
-unfoldable pub earlyNumber : List ℕ → (entries : ℕ) → ℕ
-earlyNumber ws entries =
+unfoldable pub early_number : List ℕ → (entries : ℕ) → ℕ
+early_number ws entries =
     cond (ltb (2 ^ 20) (length ws)) 2
     (cond (head_faulty ws) 3
     (cond (date_faulty ws) 16
     (cond (ltb entries (head_of ws).protections) 4
     0)))
 
-abbrev pub refusedIn : Admission → Bool
-refusedIn (Admitted sums) = false
-refusedIn (admission.Refused number place) = true
+abbrev pub refused_in : Admission → Bool
+refused_in (Admitted sums) = false
+refused_in (admission.Refused number place) = true
 
 -- an outcome as the code has it
-abbrev pub admissionOf : Bands → Outcome → Admission
-admissionOf bands (early number) = admission.Refused number 0
-admissionOf bands (refused number place) = admission.Refused number place
-admissionOf bands (accepted items left) = Admitted (sums_of bands items)
+abbrev pub admission_of : Bands → Outcome → Admission
+admission_of bands (early number) = admission.Refused number 0
+admission_of bands (refused number place) = admission.Refused number place
+admission_of bands (accepted items left) = Admitted (sums_of bands items)
 
 -- what is answered of it, and the rows
-abbrev pub answerTo : Head → Admission → Answer
-answerTo head (admission.Refused number place) = Refused number place
-answerTo head (Admitted s) = Accepted (verdict_of (tier1_of head.gain head.loss) (exposure_row s))
+abbrev pub answer_to : Head → Admission → Answer
+answer_to head (admission.Refused number place) = Refused number place
+answer_to head (Admitted s) = Accepted (verdict_of (tier1_of head.gain head.loss) (exposure_row s))
 
 abbrev pub rows_to : Head → Admission → List ℤ → List ℤ
 rows_to head (admission.Refused number place) rows = rows
@@ -67,7 +67,7 @@ AdmissionFits (Admitted s) = SumsFit s
 -- ---- the filing, as the code has it: its answer, and the rows and the register at exit
 
 abbrev pub filed : Answer → List ℤ → List Entry → Filing
-filed r rows register = record { number = number_in r; place = place_in r; verdict = verdictOfAnswer r; rows = rows; register = register }
+filed r rows register = record { number = number_in r; place = place_in r; verdict = verdict_of_answer r; rows = rows; register = register }
 
 -- what a caller who lends no register sees of it
 pub record Seen : Type 0 where

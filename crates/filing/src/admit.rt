@@ -2,7 +2,7 @@
 ghost use Rattle.std.specs.Prelude.{◌≡◌, length};
 ghost use Rattle.rules.specs.Read.{head_of};
 ghost use Rattle.rules.specs.Filing.{admission, register_after};
-ghost use Rattle.filing.specs.Answers.{admissionOf};
+ghost use Rattle.filing.specs.Answers.{admission_of};
 
 use crate::early::early;
 use crate::stages::is_refused;
@@ -13,7 +13,7 @@ use rules::{Entry, causes};
 
 // How far the book comes, and the whole register: number, place and sums of every book, whatever the register held.
 pub fn admit(book: &[u32], register: &mut [Entry]) -> Admission
-    ensures { (result ≡ admissionOf (head_of book.now).bands (admission book.now (length register.old)))
+    ensures { (result ≡ admission_of (head_of book.now).bands (admission book.now (length register.old)))
         × (register.new ≡ register_after (head_of book.now) (admission book.now (length register.old)) register.old) }
 {
     let number = early(book, register.len());

@@ -1,6 +1,6 @@
 // The refusals before the records.
 ghost use Rattle.std.specs.Prelude.{◌≡◌};
-ghost use Rattle.filing.specs.Answers.{earlyNumber};
+ghost use Rattle.filing.specs.Answers.{early_number};
 
 use heads::head::{date_faulty, head_faulty, protections_of};
 use rules::{causes, limits};
@@ -8,7 +8,7 @@ use rules::{causes, limits};
 // 2 where the book is too long, 3 where its head is not good, 16 where its date is not, 4 where the register is too short for it; else 0. All is
 // asked before it is put in order, which makes the code faster (docs/DECISIONS.md).
 pub fn early(book: &[u32], entries: usize) -> u32
-    ensures { result ≡ earlyNumber book.now entries }
+    ensures { result ≡ early_number book.now entries }
 {
     if book.len() > limits::BOOK_WORDS {
         return causes::BOOK_LONG;

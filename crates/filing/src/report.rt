@@ -4,7 +4,7 @@ ghost use Rattle.rules.specs.Read.{head_of};
 ghost use Rattle.rules.specs.Ratio.{tier1_of, verdict_of};
 ghost use Rattle.rules.specs.Rows.{exposure_row, rows_of};
 ghost use Rattle.template.specs.Sections.{SumsFit};
-ghost use Rattle.filing.specs.Answers.{answerTo, rows_to, AdmissionFits};
+ghost use Rattle.filing.specs.Answers.{answer_to, rows_to, AdmissionFits};
 
 use crate::Answer;
 use heads::head::{tier1_gain, tier1_loss};
@@ -29,7 +29,7 @@ fn publish(book: &[u32], rows: &mut [i64], s: Sums) -> u32
 // The answer to a book that came so far, with the rows where it was admitted.
 pub fn report(book: &[u32], rows: &mut [i64], a: Admission) -> Answer
     requires { (22 ≤ length rows.old) × AdmissionFits a }
-    ensures { (result ≡ answerTo (head_of book.now) a) × (rows.new ≡ rows_to (head_of book.now) a rows.old) }
+    ensures { (result ≡ answer_to (head_of book.now) a) × (rows.new ≡ rows_to (head_of book.now) a rows.old) }
 {
     match a {
         Admission::Refused { number, place } => Answer::Refused { number, place },

@@ -1,3 +1,1 @@
 pub mod PackLaws
-pub mod PutCalls
-pub mod CountsCalls

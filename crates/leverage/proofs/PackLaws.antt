@@ -11,7 +11,7 @@ use Rattle.rules.specs.Filing.{Filing, admission, register_after}
 use Rattle.reading.specs.declared.Admission.{Admission}
 use Rattle.filing.specs.declared.Answer.{Answer}
 use Rattle.filing.specs.declared.Answer.TheVariants.{Refused, Accepted}
-use Rattle.filing.specs.Answers.{filed, admissionOf}
+use Rattle.filing.specs.Answers.{filed, admission_of}
 use Rattle.sets.specs.Sets.{showing, VeryStretch}
 use Rattle.sets.specs.Search.{found_in}
 use Rattle.sets.proofs.FoundLaws.{very_same}
@@ -30,7 +30,7 @@ pub packs_accepted : (a : Answer) (verdict : ℕ) → a ≡ Accepted verdict →
 packs_accepted a verdict e = rw e (omega arith)
 
 -- what the calls of `admit` and of `put` say together
-pub put_all : (book : Bor (List ℕ)) (ordinal entries : ℕ) (ys zs : List Entry) (a : Admission) → a ≡ admissionOf (head_of book.now).bands (admission book.now entries)
+pub put_all : (book : Bor (List ℕ)) (ordinal entries : ℕ) (ys zs : List Entry) (a : Admission) → a ≡ admission_of (head_of book.now).bands (admission book.now entries)
     → zs ≡ register_after (head_of book.now) (admission book.now entries) ys
     → (p : ℕ) (r : Bor (List ℕ)) → VeryStretch book (found_in book.now ordinal a) r × (p ≡ packed_shown (found_in book.now ordinal a))
     → VeryStretch book (showing book.now ordinal entries) r × ((p ≡ packed_shown (showing book.now ordinal entries)) × (zs ≡ register_after (head_of book.now) (admission book.now entries) ys))

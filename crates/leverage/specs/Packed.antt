@@ -3,12 +3,12 @@
 use Rattle.std.specs.Prelude.{ℕ, ◌+◌, ◌*◌, ◌%◌, List, [], ◌∷◌}
 use Rattle.rules.specs.Filing.{Filing}
 use Rattle.filing.specs.declared.Answer.{Answer}
-use Rattle.filing.specs.Answers.{number_in, place_in, verdictOfAnswer}
+use Rattle.filing.specs.Answers.{number_in, place_in, verdict_of_answer}
 use Rattle.sets.specs.declared.Shown.{Shown}
 use Rattle.settings.specs.declared.Counted.{Counted}
 
 abbrev pub packed_answer : Answer → ℕ
-packed_answer r = number_in r + 256 * verdictOfAnswer r + 65536 * (place_in r % 4294967296)
+packed_answer r = number_in r + 256 * verdict_of_answer r + 65536 * (place_in r % 4294967296)
 
 abbrev pub packed : Filing → ℕ
 packed f = f.number + 256 * f.verdict + 65536 * (f.place % 4294967296)

@@ -1,6 +1,5 @@
 pub mod SearchLaws
 pub mod FoundLaws
 pub mod SetLaws
-pub mod ShowCalls
 pub mod ClaimsHold
 pub mod SamplesHold

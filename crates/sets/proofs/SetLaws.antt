@@ -19,7 +19,7 @@ use Rattle.rules.specs.Read.{head_of, items_of}
 use Rattle.rules.specs.Filing.{Outcome, early, refused, accepted, admission, outcome_of, register_after}
 use Rattle.laws.proofs.Accepted.{accepted_is}
 use Rattle.reading.specs.declared.Admission.{Admission}
-use Rattle.filing.specs.Answers.{admissionOf}
+use Rattle.filing.specs.Answers.{admission_of}
 use Rattle.cuts.proofs.Cutting.{kind_of_item, items_begin, here_kind, here_onward, item_stands, StandsIn, book_cut}
 use Rattle.cuts.proofs.ByKind.{begins, picked, opens, sets_by_kind}
 use Rattle.cuts.proofs.ByKind as by_kind
@@ -136,11 +136,11 @@ found_set ws e n = ap (found_at ws) (begin_found ws e n) ∙ go (get_elem? (sets
         rw (lt-ltb p.begin (length ws) begins, here_kind ws p.begin p p.end here.here, ends)
 
 -- and so it is for every book, as far as it came
-pub found_showing : (ws : List ℕ) (ordinal entries : ℕ) (bands : Bands) (a : Admission) → a ≡ admissionOf bands (admission ws entries) → found_in ws ordinal a ≡ showing ws ordinal entries
+pub found_showing : (ws : List ℕ) (ordinal entries : ℕ) (bands : Bands) (a : Admission) → a ≡ admission_of bands (admission ws entries) → found_in ws ordinal a ≡ showing ws ordinal entries
 unfolding showing outcome_of
 found_showing ws ordinal entries bands a q = rw q (go (admission ws entries) refl)
   where
-    go : (o : Outcome) → admission ws entries ≡ o → found_in ws ordinal (admissionOf bands o) ≡ shown_in o ordinal
+    go : (o : Outcome) → admission ws entries ≡ o → found_in ws ordinal (admission_of bands o) ≡ shown_in o ordinal
     go (early number) e = refl
     go (refused number place) e = refl
     go (accepted items left) e =
@@ -149,7 +149,7 @@ found_showing ws ordinal entries bands a q = rw q (go (admission ws entries) ref
 
 -- ---- what the calls of `admit` and of `answer` say together
 
-pub shown_all : (book : Bor (List ℕ)) (ordinal entries : ℕ) (ys zs : List Entry) (a : Admission) → a ≡ admissionOf (head_of book.now).bands (admission book.now entries)
+pub shown_all : (book : Bor (List ℕ)) (ordinal entries : ℕ) (ys zs : List Entry) (a : Admission) → a ≡ admission_of (head_of book.now).bands (admission book.now entries)
     → zs ≡ register_after (head_of book.now) (admission book.now entries) ys
     → (r : Bor (List ℕ)) (number place : ℕ) → VeryStretch book (found_in book.now ordinal a) r × ((number ≡ (found_in book.now ordinal a).number) × (place ≡ (found_in book.now ordinal a).place))
     → VeryStretch book (showing book.now ordinal entries) r × ((number ≡ (showing book.now ordinal entries).number) × ((place ≡ (showing book.now ordinal entries).place)

@@ -19,7 +19,7 @@ use Rattle.laws.proofs.Accepted.{accepted_is}
 use Rattle.reading.specs.declared.Admission.{Admission}
 use Rattle.reading.specs.declared.Admission.TheVariants.{Admitted, Refused}
 use Rattle.template.specs.Sections.{SumsFit}
-use Rattle.filing.specs.Answers.{admissionOf}
+use Rattle.filing.specs.Answers.{admission_of}
 use Rattle.filing.proofs.FilingLaws.{admission_fits}
 use Rattle.cuts.proofs.Grammar.{stands_by_kind}
 use Rattle.cuts.proofs.Cutting.{kind_of_item, items_begin, here_kind, item_stands}
@@ -48,7 +48,7 @@ refused_not number place sums e = let z : ◌≡◌ {A = ℕ} 0 1 = cc in absurd
 admitted_is : (ws : List ℕ) (register : List Entry) (sums : Sums) → IsAdmission ws register (Admitted sums) → Admission-is ws register sums
 admitted_is ws register sums a = go (admission ws (length register)) refl a
   where
-    go : (o : Outcome) → admission ws (length register) ≡ o → Admitted sums ≡ admissionOf (head_of ws).bands o → Admission-is ws register sums
+    go : (o : Outcome) → admission ws (length register) ≡ o → Admitted sums ≡ admission_of (head_of ws).bands o → Admission-is ws register sums
     go (early number) e q = refused_not number 0 sums q
     go (refused number place) e q = refused_not number place sums q
     go (accepted items left) e q = record { items = items; left = left; accepts = e; sums_are = cc }
@@ -150,7 +150,7 @@ pub answered_refused : (ws : List ℕ) (ordinal : ℕ) (register : List Entry) (
 unfolding counting
 answered_refused ws ordinal register a number place e is {r} q = go (admission ws (length register)) refl (sym e ∙ is)
   where
-    go : (o : Outcome) → admission ws (length register) ≡ o → ◌≡◌ {A = Admission} (Refused number place) (admissionOf (head_of ws).bands o) → r ≡ counted_in ws ordinal register (admission ws (length register))
+    go : (o : Outcome) → admission ws (length register) ≡ o → ◌≡◌ {A = Admission} (Refused number place) (admission_of (head_of ws).bands o) → r ≡ counted_in ws ordinal register (admission ws (length register))
     go (early n) f h = let x : number ≡ n = cc in let y : place ≡ 0 = cc in q ∙ rw (f, x, y) refl
     go (refused n p) f h = let x : number ≡ n = cc in let y : place ≡ p = cc in q ∙ rw (f, x, y) refl
     go (accepted items left) f h = refused_not number place (sums_of (head_of ws).bands items) (sym h)

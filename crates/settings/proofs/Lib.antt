@@ -6,6 +6,5 @@ pub mod PieceLaws
 pub mod CountLaws
 pub mod SetHere
 pub mod ChosenLaws
-pub mod CountCalls
 pub mod SettingLaws
 pub mod AnswerLaws

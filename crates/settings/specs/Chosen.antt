@@ -7,12 +7,12 @@ use Rattle.rules.specs.Read.{head_of}
 use Rattle.rules.specs.Rows.{sums_of}
 use Rattle.rules.specs.Filing.{admission}
 use Rattle.reading.specs.declared.Admission.{Admission}
-use Rattle.filing.specs.Answers.{admissionOf}
+use Rattle.filing.specs.Answers.{admission_of}
 use Rattle.other_marks.specs.Claims.{SetAmong}
 
 -- what `admit` gives of a book with this register
 abbrev pub IsAdmission : List ℕ → List Entry → Admission → Type 0
-IsAdmission ws register a = a ≡ admissionOf (head_of ws).bands (admission ws (length register))
+IsAdmission ws register a = a ≡ admission_of (head_of ws).bands (admission ws (length register))
 
 -- with some register
 pub record AdmittedBy (ws : List ℕ) (a : Admission) : Type 0 where
