@@ -47,4 +47,4 @@ stretch_of ws s = take (s.end - s.begin) (drop s.begin ws)
 abbrev pub VeryStretch : Bor (List ℕ) → Shown → Bor (List ℕ) → Type 0
 VeryStretch book s r =
     (r.now ≡ stretch_of book.now s)
-    × ((r.ptr.0 ≡ book.ptr.0) × (r.ptr.1 ≡ book.ptr.1 + s.begin * 4))
+    × ((r.ref_ptr.0 ≡ book.ref_ptr.0) × (r.ref_ptr.1 ≡ book.ref_ptr.1 + s.begin * 4))

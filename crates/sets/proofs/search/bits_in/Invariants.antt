@@ -1,0 +1,13 @@
+use mathlib.Core.Path.{◌≡◌, refl, sym, ◌∙◌}
+use Prim.Native.Nat.{◌-◌}
+use native.Mathlib.Omega.{arith}
+use borrow.Author.Rules.{rules}
+use Rattle.sets.specs.Search.{bits_from}
+use Rattle.sets.proofs.SearchLaws.{bits_word, bits_none}
+use Rattle.sets.proofs.search.bits_in.Given as goal
+
+abbrev pub invariant-loop-at : goal.invariant-loop-at
+invariant-loop-at l = bits_from l.bits l.book l.at (l.to - l.at) ≡ bits_from 0 l.book l.from (l.to - l.from)
+
+abbrev pub decreases-loop-at : goal.decreases-loop-at
+decreases-loop-at l = l.to - l.at

@@ -1,0 +1,14 @@
+use mathlib.Core.Path.{◌≡◌, refl, sym, ◌∙◌}
+use Prim.Native.Nat.{◌-◌}
+use native.Mathlib.Omega.{arith}
+use lib.ListN.{length}
+use borrow.Author.Rules.{rules}
+use Rattle.sets.specs.Search.{passes, place_from}
+use Rattle.sets.proofs.SearchLaws.{place_over, place_next, place_found}
+use Rattle.sets.proofs.search.one_by_one.Given as goal
+
+abbrev pub invariant-loop-at : goal.invariant-loop-at
+invariant-loop-at l = place_from (passes l.sought) l.book l.at l.left ≡ place_from (passes l.sought) l.book l.initial.at l.initial.left
+
+abbrev pub decreases-loop-at : goal.decreases-loop-at
+decreases-loop-at l = length l.book - l.at
