@@ -1,0 +1,18 @@
+use mathlib.Core.Path.{◌∙◌, ap}
+use Prim.Native.Nat.{◌-◌}
+use native.Mathlib.Omega.{arith}
+use lib.ListN.{length}
+use Rattle.rules.specs.Word.{size_of}
+use Rattle.weighing.specs.declared.read.CoverWords.{CoverWords}
+use borrow.Author.Rules.{rules}
+use Rattle.settings.proofs.Covers.{CoversLeft, covers_begin, cover_there, cover_taken, covers_over}
+use Rattle.settings.proofs.members.covers_from.Goals as goal
+
+pub cover_words-c-requires : goal.cover_words-c-requires
+cover_words-c-requires c = cover_there _ _ _ _ c.loop-c.invariant c.standing.ensures c.loop-c-test.true
+
+pub loop-c-preserved : goal.loop-c-preserved
+loop-c-preserved c = cover_taken _ _ _ _ c.loop-c.invariant c.standing.ensures c.loop-c-test.true (c.wide-amount.ensures ∙ c.size.ensures ∙ ap (λ (w : CoverWords). size_of w.amount) c.cover_words-c.ensures)
+
+pub returns : goal.returns
+returns c = covers_over _ _ _ _ c.loop-c.invariant c.standing.ensures c.loop-c-test.false

@@ -1,0 +1,6 @@
+use Rattle.settings.proofs.Gathering.{not_refused, basket_small, basket_is}
+use borrow.Author.Rules.{rules}
+use Rattle.settings.proofs.members.with_basket.Goals as goal
+
+pub add_basket-requires : goal.add_basket-requires
+add_basket-requires c = (c.requires.0.1, basket_small _ _ c.basket_at.ensures _ _ _ c.in-Whole.is)

@@ -1,0 +1,7 @@
+use native.Mathlib.Omega.{arith}
+use Rattle.settings.proofs.Gathering.{credit_is}
+use borrow.Author.Rules.{rules}
+use Rattle.settings.proofs.members.with_credit.Goals as goal
+
+pub returns : goal.returns
+returns c = credit_is _ _ c.written_words.ensures c.covers_from-covers.ensures c.add_written.ensures
