@@ -33,6 +33,8 @@ pub corrected_exact : (bands : Bands) {w v : ℕ} {role : Role} {i j : Item} {fi
     → (d : ℕ) → signed_of v ≡ signed_of w +ℤ pos d → exposure_of bands j ≡ exposure_of bands i + figure * d
 corrected_exact bands (Corrected.of_asset a c c' e f h k) x d s = rw (larger d e f s) ((carrying_exact bands a x).adds c d h)
 corrected_exact bands (Corrected.for_off_balance o n n' e f) x d s = rw (larger d e f s) ((notional_exact bands o x).adds n d (omega arith))
+corrected_exact bands (Corrected.for_derivatives r) x d s = elim x [ ]
+corrected_exact bands (Corrected.for_financing r) x d s = elim x [ ]
 
 -- within the ceiling
 pub corrected_ceiling : (bands : Bands) {w v : ℕ} {role : Role} {i j : Item} {ceiling : ℕ} → Corrected w v role i j → Ceiling role ceiling

@@ -1,6 +1,6 @@
 -- A derivative set, and the same with further cover: by how much its exposure falls. Assumes nothing.
 use Prim.Native.Nat.{ℕ, ◌+◌, ◌-◌, ◌*◌, ◌≤◌}
-use mathlib.Core.Path.{◌≡◌, refl}
+use mathlib.Core.Path.{◌≡◌, refl, sym, ◌∙◌, ap}
 use mathlib.Core.Bool.{Bool, true, false, cond}
 use native.Mathlib.Omega.{arith}
 use Rattle.rules.specs.declared.Bands.{Bands}
@@ -74,5 +74,6 @@ set_falls bands s t r within =
     let b = unless s.exempt (1000 * replacement_of u y + weighted_in u y (y.add_on - y.uncovered)) (1000 * replacement_of u z + weighted_in u z (z.add_on - z.uncovered))
     (100 * (total covers_in t.members - total covers_in s.members))
     (omega (arith, e, k.0)) (omega (arith, e, k.1, m.rate, m.add_on, m.within, m.covers)) in
-    rw (by_marks bands s, by_marks bands t, ← r.alike)
+    let f : derivative_exposure bands t ≡ exposure_by u z (total written_in t.members) (total covers_in t.members) = by_marks bands t ∙ ap (λ (x : DerivativeSet). exposure_by x z (total written_in t.members) (total covers_in t.members)) (sym r.alike) in
+    rw (by_marks bands s, f)
     (record { at_least = omega (arith, b.0, b.1, within, m.written, m.covers); at_most = omega (arith, b.0, b.1, within, m.written, m.covers) })
