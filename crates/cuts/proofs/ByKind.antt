@@ -11,7 +11,8 @@ use Rattle.rules.specs.Book.{Member, trade, written, basket, Item, asset, deriva
 use Rattle.rules.specs.Read.{first_record, protections_of, items_of}
 use Rattle.cuts.specs.Words.{Shape, Wordwise}
 use Rattle.cuts.proofs.Chains.{Chain}
-use Rattle.cuts.proofs.Cutting.{ItemHere, kind_of_item, is_item, test_item, items_begin, here_places, book_cut}
+use Rattle.cuts.proofs.Cutting.{ItemHere, kind_of_item, test_item, items_begin, here_places, book_cut}
+pub use Rattle.cuts.proofs.Opens.{opens}
 use Rattle.cuts.proofs.Lengths.{cover_length, member_length, financing_trade_length, protection_length, placed_length, here_length}
 use Rattle.cuts.proofs.Scan.{marked, scan, along}
 use Rattle.cuts.proofs.Places.{cover_places, member_places, financing_trade_places, inner_places, placed_places, protection_places, book_places, behind_scan, places_same}
@@ -66,11 +67,7 @@ module _ (test : ℕ → Bool) (o : Outer test) where
 
 -- ---- all items and the end
 
--- the kinds of the first words of items, and that of the end word
-abbrev pub opens : ℕ → Bool
-opens kind = is_item kind || eqb kind 15
-
--- none of these is inside an item
+-- none of the kinds of `opens` is inside an item
 pub outer : Outer opens
 outer = (refl, refl, refl, refl, refl, refl)
 

@@ -14,12 +14,9 @@ use Rattle.laws.specs.ReadAs.{ReadAs}
 use Rattle.cuts.proofs.Chains.{Chain, sure_run, chain_append, chain_split, chain_onward}
 use Rattle.cuts.proofs.Records.{NoneOf, is_cover, MemberRead, member_onward, ProtectionRead, protection_onward}
 use Rattle.cuts.proofs.Cutting.{ItemHere, EndHere, here_places, here_onward, book_cut, item_stands, cut_protections, cut_items}
+pub use Rattle.cuts.proofs.MovedPlaces.{moved_placed}
 use Rattle.cuts.proofs.Moved.{moved_member, Stretch, Follows, word_on, room_on, none_moved, chain_moved, protection_moved, member_moved}
 use Rattle.cuts.proofs.Local.{stay, map_same, member_stays, FollowsAll, follows_none, here_goes_not, end_goes_not, item_kept}
-
--- an item at another place
-abbrev pub moved_placed : (ℕ → ℕ) → Placed → Placed
-moved_placed move p = record { begin = move p.begin; end = move p.end; item = p.item }
 
 -- ---- a stretch read elsewhere
 

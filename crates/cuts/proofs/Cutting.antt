@@ -1,6 +1,6 @@
 -- How a book that is read without a fault is cut: b protections of four words behind the head, then items, each where the one before it ends,
 -- then the end word, which is the last. Assumes nothing.
-use Prim.Native.Nat.{ℕ, zero, suc, ◌+◌, ◌*◌, ◌≤◌, ◌<◌}
+use Prim.Native.Nat.{ℕ, zero, suc, ◌+◌, ◌≤◌, ◌<◌}
 use mathlib.Core.Path.{◌≡◌, refl, sym, ◌∙◌, ap}
 use mathlib.Core.Bool.{Bool, false, not, ◌||◌, cond}
 use mathlib.Core.List.{List, ◌∷◌, ◌++◌}
@@ -20,6 +20,7 @@ use Rattle.laws.proofs.Accepted.{accepted_is}
 use Rattle.laws.proofs.Protections.{no_fault_before, protections_count}
 use Rattle.laws.proofs.Records.{head_word_lem}
 use Rattle.laws.proofs.Valid.{cause_none}
+pub use Rattle.cuts.proofs.ItemsBegin.{items_begin}
 use Rattle.cuts.proofs.Chains.{Chain, View, sure_run, chain_split, chain_onward, chain_even, chain_run, chain_run_all, run_chain, run_cut, seen_onward}
 use Rattle.cuts.proofs.Grammar.{seen_if}
 use Rattle.cuts.proofs.Records.{ItemRead, item_view, item_made, item_onward, ProtectionRead, protection_view, protection_made}
@@ -126,10 +127,6 @@ pub here_onward : (ws : List ℕ) (at : ℕ) (p : Placed) (next : ℕ) → ItemH
 here_onward ws = seen_onward (length ws) (item_turn ws) (book_view ws) (here_made ws)
 
 -- ---- the whole book
-
--- where the protections end
-abbrev pub items_begin : List ℕ → ℕ
-items_begin ws = first_record + 4 * (head_of ws).protections
 
 pub record CutBook (ws : List ℕ) : Type 0 where
   -- b protections of four words each

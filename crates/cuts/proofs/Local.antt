@@ -3,11 +3,10 @@
 use Prim.Native.Nat.{ℕ, ◌+◌, ◌-◌, ◌≤◌, ◌<◌}
 use mathlib.Core.Path.{◌≡◌, refl, sym, ◌∙◌, ap}
 use mathlib.Core.Bool.{Bool, false, ◌||◌}
-use mathlib.Core.List.{List, ◌++◌, map, map-id, map_congr_left}
+use mathlib.Core.List.{List, map, map-id, map_congr_left}
 use native.Mathlib.Omega.{arith}
-use native.Mathlib.Nat.{add-zero}
-use lib.ListN.{length, take, length-take, get_or-eq_default}
-use lib.Seq.{get_or-take, length-take-le, take-take, take-length, take-append_seam, get_or-append-add}
+use lib.ListN.{length, take, length-take}
+use lib.Seq.{get_or-take, length-take-le}
 use Rattle.rules.specs.Word.{word, kind_of}
 use Rattle.rules.specs.Book.{Member, trade, written, basket, FinancingTrade, Item, Placed}
 use Rattle.rules.specs.Read.{asset_at, derivative_set_at, financing_trade_at, financing_set_at, off_balance_at}
@@ -136,25 +135,3 @@ module _ (n : ℕ) (xs ys : List ℕ) (s : Stretch stay xs ys 0 n) (f : FollowsA
 -- so n words that read as an item do so in another book, if what stands behind them there does not go on with it
 pub item_local : (n : ℕ) (xs ys : List ℕ) (i : Item) → ItemRead xs i n → take n xs ≡ take n ys → NoneOf runs_on ys n → ItemRead ys i n
 item_local n xs ys i r t e = item_kept n xs ys (first_words n xs ys (item_onward xs i n r).1 t) (follows_none stay xs ys n e) i n (omega arith) r
-
--- ---- the words that read as one item and no more
-
--- all of them, and nothing is left
-abbrev pub OneItem : List ℕ → Item → Type 0
-OneItem ws i = ItemRead ws i (length ws)
-
--- an item's words alone read as that item
-pub item_alone : (n : ℕ) (i : Item) (ws : List ℕ) → ItemRead ws i n → OneItem (take n ws) i
-item_alone n i ws r =
-    let k = length-take-le n ws (item_onward ws i n r).1 in
-    rw k (item_local n ws (take n ws) i r (sym (take-take n n ws (omega arith))) (none_behind (take n ws) n (omega arith)))
-  where
-    none_behind : (zs : List ℕ) (m : ℕ) → length zs ≤ m → NoneOf runs_on zs m
-    none_behind zs m h = rw (get_or-eq_default zs 0 {n = m} h)
-
--- and before any other words, unless these go on with it
-pub item_before : (i : Item) (ws rest : List ℕ) → OneItem ws i → NoneOf runs_on rest 0 → ItemRead (ws ++ rest) i (length ws)
-item_before i ws rest r e = item_local (length ws) ws (ws ++ rest) i r (take-length ws ∙ sym (take-append_seam ws rest)) (rw behind e)
-  where
-    behind : word (ws ++ rest) (length ws) ≡ word rest 0
-    behind = ap (λ (i : ℕ). word (ws ++ rest) i) (sym (add-zero (length ws))) ∙ get_or-append-add ws rest 0 0

@@ -9,26 +9,13 @@ use native.Mathlib.Decide.{dec_lt}
 use native.Mathlib.Nat.{add_assoc}
 use lib.ListN.{length}
 use Rattle.rules.specs.Word.{word, kind_of, names_in}
-use Rattle.rules.specs.Book.{Protection, Cover, Member, trade, written, basket}
+use Rattle.rules.specs.Book.{Protection, Cover, Member}
 use Rattle.rules.specs.Read.{lacks, protection_at, cover_at, written_at, trade_at, grades_at, basket_at}
-use Rattle.cuts.specs.Further.{covered_by}
 use Rattle.cuts.proofs.Amounts.{amount_kind, none_lacking, stretch_same}
 use Rattle.cuts.proofs.Chains.{Chain, Cut, chain_onward}
+pub use Rattle.cuts.proofs.MovedPlaces.{moved_cover, moved_member}
 use Rattle.cuts.proofs.Grammar.{Whole, amounts_at}
 use Rattle.cuts.proofs.Records.{NoneOf, is_cover, CoverRead, cover_onward, MemberRead, ProtectionRead, cover_fault_at, trade_fault_at, written_fault_at, basket_fault_at, protection_fault_at}
-
--- ---- what is read, with its places moved
-
-module _ (move : ℕ → ℕ) where
-  -- only a cover knows its place
-  abbrev pub moved_cover : Cover → Cover
-  moved_cover c = record { at = move c.at; protection = c.protection; amount = c.amount }
-
-  -- so of a member only its covers move
-  abbrev pub moved_member : Member → Member
-  moved_member (trade t) = trade t
-  moved_member (written w) = written (covered_by (map moved_cover w.covers) w)
-  moved_member (basket b) = basket b
 
 -- the words of the one from a place up to another stand in the other, each where `move` takes its place
 pub record Stretch (move : ℕ → ℕ) (xs ys : List ℕ) (from to : ℕ) : Type 0 where

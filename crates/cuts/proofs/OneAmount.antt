@@ -11,9 +11,9 @@ use lib.Dec.{eqb}
 use lib.ListN.{length, drop, length-drop}
 use lib.Seq.{get_or-drop}
 use Rattle.rules.specs.Word.{word, kind_of, names_in}
-use Rattle.rules.specs.Book.{Cover, Member, trade, written, basket, FinancingTrade, Item, asset, derivatives, financing, off_balance, Placed}
+use Rattle.rules.specs.Book.{Cover, Member, written, FinancingTrade, Item, derivatives, Placed}
 use Rattle.rules.specs.Run.{Turn, over, some}
-use Rattle.rules.specs.Read.{first_record, head_of, cover_at, trade_at, written_at, basket_at, asset_at, derivative_set_at, financing_trade_at, financing_set_at, off_balance_at, items_of}
+use Rattle.rules.specs.Read.{first_record, head_of, written_at, derivative_set_at, financing_trade_at, items_of}
 use Rattle.cuts.specs.Words.{Shape, Wordwise, OneAmount}
 use Rattle.cuts.proofs.Shape.{shape_itself, kind_shape}
 use Rattle.cuts.proofs.Chains.{Chain, Cut, chain_onward}
@@ -22,6 +22,7 @@ use Rattle.cuts.proofs.Cutting.{ItemHere, EndHere, item_not_end, items_begin, he
 use Rattle.cuts.proofs.Moved.{Stretch, cover_moved, member_moved}
 use Rattle.cuts.proofs.Local.{stay, member_stays, follows_kind}
 use Rattle.cuts.proofs.Changed.{head_same, here_moved}
+pub use Rattle.cuts.proofs.OtherRecords.{CoverOther, MemberOther, FinancingTradeOther, ItemOther, PlacedOther}
 use Rattle.cuts.proofs.Steps.{OneOther, Steps, chains_same, chains_other}
 
 -- two books that are equal but for one amount have one shape
@@ -43,36 +44,6 @@ one_behind {xs} {ys} {k} at h o =
       second = rw (get_or-drop at ys (k - at) 0, e) o.second;
       others = λ i n. get_or-drop at xs i 0 ∙ o.others (at + i) (λ z. n (omega arith)) ∙ sym (get_or-drop at ys i 0);
     }
-
--- ---- what two records are in which the word stands, by their own words in each book
-
-module _ (xs ys : List ℕ) (k : ℕ) where
-  pub data CoverOther (at : ℕ) : Cover → Cover → ℕ → Type 0 where
-    covers : CoverOther at (cover_at xs at) (cover_at ys at) (at + 2)
-
-  -- of a written credit the word is one of its own, and its covers are the same; or it is that of a cover
-  pub data MemberOther (at : ℕ) : Member → Member → ℕ → Type 0 where
-    trades : MemberOther at (trade (trade_at xs at)) (trade (trade_at ys at)) (at + 5)
-    credits : (cs : List Cover) {stop : ℕ} → k < at + 6 → MemberOther at (written (written_at xs at cs)) (written (written_at ys at cs)) stop
-    covers : {cs ds : List Cover} {stop : ℕ} → OneOther (CoverRead xs) (CoverRead ys) CoverOther k (at + 6) cs ds → MemberOther at (written (written_at xs at cs)) (written (written_at ys at ds)) stop
-    baskets : MemberOther at (basket (basket_at xs at)) (basket (basket_at ys at)) (at + suc (names_in (word xs at) + 2))
-
-  pub data FinancingTradeOther (at : ℕ) : FinancingTrade → FinancingTrade → ℕ → Type 0 where
-    trades : FinancingTradeOther at (financing_trade_at xs at) (financing_trade_at ys at) (at + 8)
-
-  -- of a derivative set the word is one of its own, and its members are the same; or it is that of a member
-  pub data ItemOther : Item → Item → ℕ → Type 0 where
-    assets : ItemOther (asset (asset_at xs)) (asset (asset_at ys)) 4
-    sets : (l : List Member) {stop : ℕ} → k < 4 → ItemOther (derivatives (derivative_set_at xs l)) (derivatives (derivative_set_at ys l)) stop
-    members : {l m : List Member} {stop : ℕ} → OneOther (MemberRead xs) (MemberRead ys) MemberOther k 4 l m → ItemOther (derivatives (derivative_set_at xs l)) (derivatives (derivative_set_at ys m)) stop
-    financings : {l m : List FinancingTrade} {stop : ℕ} → OneOther (FinancingTradeRead xs) (FinancingTradeRead ys) FinancingTradeOther k 1 l m
-        → ItemOther (financing (financing_set_at xs l)) (financing (financing_set_at ys m)) stop
-    commitments : ItemOther (off_balance (off_balance_at xs)) (off_balance (off_balance_at ys)) 2
-
--- an item of a book, from its own place on
-pub data PlacedOther (xs ys : List ℕ) (k at : ℕ) : Placed → Placed → ℕ → Type 0 where
-  here : {i j : Item} {n : ℕ} → ItemOther (drop at xs) (drop at ys) (k - at) i j n
-      → PlacedOther xs ys k at (record { begin = at; end = at + n; item = i }) (record { begin = at; end = at + n; item = j }) (at + n)
 
 -- ---- so they are read
 

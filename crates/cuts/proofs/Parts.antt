@@ -13,7 +13,8 @@ use Rattle.rules.specs.Read.{first_record, head_of, protections_of, items_of}
 use Rattle.cuts.proofs.Chains.{Chain, chain_onward}
 use Rattle.cuts.proofs.Cutting.{ItemHere, items_begin, here_onward, book_cut}
 use Rattle.cuts.proofs.Moved.{Stretch}
-use Rattle.cuts.proofs.Local.{stay, first_words, OneItem, item_alone}
+use Rattle.cuts.proofs.Local.{stay, first_words}
+use Rattle.cuts.proofs.OneItem.{OneItem, item_alone}
 use Rattle.cuts.proofs.Changed.{head_same, protections_same}
 use Rattle.cuts.proofs.Written.{joined, book_of, Reading, BookParts, placed_from, behind_words, written_head, written_items}
 

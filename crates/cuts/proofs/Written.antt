@@ -8,48 +8,18 @@ use native.Mathlib.Omega.{arith}
 use native.Mathlib.Nat.{add-zero, add_assoc}
 use lib.ListN.{length, drop, length-append}
 use lib.Seq.{get_or-append-add, get_or-append_seam, take-length, take-append_seam, drop-append_seam, drop-drop}
-use Rattle.rules.specs.Word.{word, kind_of, payload_of}
+use Rattle.rules.specs.Word.{word, kind_of}
 use Rattle.rules.specs.Book.{Head, Protection, Item, Placed}
 use Rattle.rules.specs.Read.{first_record, head_faulty, date_faulty, head_of, protections_of, items_of}
 use Rattle.laws.specs.ReadAs.{ReadAs}
 use Rattle.cuts.proofs.Chains.{Chain, sure_run}
 use Rattle.cuts.proofs.Records.{NoneOf, runs_on, ItemRead, item_onward, ProtectionRead}
-use Rattle.cuts.proofs.Cutting.{ItemHere, EndHere, items_begin, item_kind, test_item, cut_protections, cut_items}
+use Rattle.cuts.proofs.Cutting.{ItemHere, EndHere, item_kind, test_item, cut_protections, cut_items}
 use Rattle.cuts.proofs.Moved.{Stretch}
-use Rattle.cuts.proofs.Local.{stay, first_words, OneItem, item_before}
+use Rattle.cuts.proofs.Local.{stay, first_words}
+use Rattle.cuts.proofs.OneItem.{OneItem, item_before}
+pub use Rattle.cuts.proofs.BookParts.{joined, book_of, Front, Reading, EndWord, BookParts}
 use Rattle.cuts.proofs.Changed.{head_same, head_faulty_same, date_faulty_same, protections_same}
-
--- ---- what is written
-
--- words one after the other
-abbrev pub joined : List (List ℕ) → List ℕ
-joined [] = []
-joined (w ∷ l) = w ++ joined l
-
--- head and protections, items, end
-abbrev pub book_of : (front : List ℕ) → List (List ℕ) → (end : ℕ) → List ℕ
-book_of front items end = front ++ (joined items ++ (end ∷ []))
-
--- words that are a head and its protections, which are as many as it says
-pub record Front (front : List ℕ) (ps : List Protection) : Type 0 where
-  pub long : length front ≡ items_begin front
-  pub many : length ps ≡ (head_of front).protections
-  pub protections : Chain (ProtectionRead front) first_record ps (length front)
-
--- each list of words reads as the item beside it
-abbrev pub Reading : List (List ℕ) → List Item → Type 0
-Reading = Forall₂ OneItem
-
--- an end word that counts the words before it
-pub record EndWord (end count : ℕ) : Type 0 where
-  pub of : kind_of end ≡ 15
-  pub counts : payload_of end ≡ count
-
--- parts that a book is written of
-pub record BookParts (front : List ℕ) (ps : List Protection) (items : List (List ℕ)) (is : List Item) (end : ℕ) : Type 0 where
-  pub front_good : Front front ps
-  pub reading : Reading items is
-  pub end_good : EndWord end (length front + length (joined items))
 
 -- the items from a place on, each as long as its words
 abbrev pub placed_from : ℕ → List (List ℕ) → List Item → List Placed
