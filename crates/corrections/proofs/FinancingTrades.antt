@@ -1,39 +1,26 @@
 -- Two financing sets that are equal but for one amount, as they are read: if a claim speaks of it, it is the value lent in a trade. Assumes nothing.
-use Prim.Native.Nat.{ℕ, ◌+◌, ◌-◌, ◌≤◌}
+use Prim.Native.Nat.{ℕ, ◌≤◌}
 use mathlib.Core.Path.{◌≡◌, refl, ◌∙◌}
-use mathlib.Core.Bool.{Bool, true}
+use mathlib.Core.Bool.{true}
 use mathlib.Core.List.{List, [], ◌∷◌}
 use native.Mathlib.Omega.{arith}
 use Rattle.rules.specs.Word.{word}
 use Rattle.rules.specs.Book.{FinancingTrade, financing}
-use Rattle.rules.specs.Read.{financing_trade_at, financing_set_at}
+use Rattle.rules.specs.Read.{financing_set_at}
 use Rattle.cuts.specs.Words.{OneAmount}
 use Rattle.cuts.proofs.Chains.{chain_onward}
 use Rattle.cuts.proofs.Records.{FinancingTradeRead, financing_trade_onward}
 use Rattle.cuts.proofs.Steps.{OneOther}
 use Rattle.cuts.proofs.OneAmount.{FinancingTradeOther}
-use Rattle.corrections.specs.Roles.{head, days, gross_asset, securities, receivable, payable, value_received, lent, other, financing_trade_roles, item_roles}
-use Rattle.corrections.specs.Claims.{units}
-use Rattle.corrections.proofs.Apart.{sizes_apart, one_of}
-use Rattle.corrections.proofs.Lent.{lending, Relent, tradeless}
+use Rattle.corrections.specs.Roles.{head, lent, other, financing_trade_roles, item_roles}
+use Rattle.corrections.proofs.Apart.{one_of}
+use Rattle.corrections.proofs.Lent.{tradeless}
 use Rattle.corrections.proofs.Corrected.{Corrected}
-use Rattle.corrections.proofs.Places.{role_in, role_of_other, spoken_of, only_there}
+use Rattle.corrections.proofs.Places.{role_in, role_of_other, spoken_of}
 use Rattle.corrections.proofs.Counted.{financing_trade_words_lem}
+use Rattle.corrections.proofs.OneFinancingTrade.{trade_corrected}
 
 module _ {xs ys : List ℕ} {k : ℕ} (o : OneAmount xs ys k) where
-  -- a trade in which it stands
-  trade_corrected : (further : Bool) (at : ℕ) (t u : FinancingTrade) (next : ℕ) → FinancingTradeOther xs ys k at t u next
-      → spoken_of (role_in (financing_trade_roles further t) (k - at)) ≡ true → (role_in (financing_trade_roles further t) (k - at) ≡ lent further) × Relent (units xs ys k) t u
-  unfolding financing_trade_at
-  trade_corrected further at t u next FinancingTradeOther.trades h =
-      let q = only_there (other head ∷ other gross_asset ∷ other securities ∷ other receivable ∷ other payable ∷ []) (lent further) (other value_received ∷ other days ∷ []) refl refl (k - at) h in
-      let e : k ≡ at + 5 = omega (arith, q.0) in
-      let here = o.others at (λ z. omega arith) in
-      let is : (j : ℕ) → (j ≡ 5 → ⊥) → word xs (at + j) ≡ word ys (at + j) = λ j n. o.others (at + j) (λ z. n (omega arith)) in
-      let alike : lending 0 (financing_trade_at xs at) ≡ lending 0 (financing_trade_at ys at) =
-      rw (here, is 1 (λ z. omega arith), is 2 (λ z. omega arith), is 3 (λ z. omega arith), is 4 (λ z. omega arith), is 6 (λ z. omega arith), is 7 (λ z. omega arith)) in
-      (q.1, record { alike = alike; within = rw e (sizes_apart (word xs (at + 5)) (word ys (at + 5))) })
-
   -- A SET in one of whose trades it stands
   pub trades_corrected : (l m : List FinancingTrade) → OneOther (FinancingTradeRead xs) (FinancingTradeRead ys) (FinancingTradeOther xs ys k) k 1 l m
       → spoken_of (role_in (item_roles (financing (financing_set_at xs l))) k) ≡ true
@@ -42,7 +29,7 @@ module _ {xs ys : List ℕ} {k : ℕ} (o : OneAmount xs ys k) where
   trades_corrected l m c h =
       let further = (financing_set_at xs l).further in
       let there = role_of_other (financing_trade_roles further) (financing_trade_words_lem xs further) (other head ∷ []) refl c in
-      let q = trade_corrected further c.at c.first c.second c.next c.step (rw there at h) in
+      let q = trade_corrected o further c.at c.first c.second c.next c.step (rw there at h) in
       let far : 1 ≤ k = omega (arith, c.from, chain_onward (λ i a j r. (financing_trade_onward xs i a j r).0) c.reads_before) in
       let alike : tradeless (financing_set_at xs l) ≡ tradeless (financing_set_at ys m) = rw (o.others 0 (λ z. omega arith)) in
       let e : role_in (item_roles (financing (financing_set_at xs l))) k ≡ lent further = there ∙ q.0 in

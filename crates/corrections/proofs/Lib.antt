@@ -8,6 +8,7 @@ pub mod Corrected
 pub mod Counted
 pub mod Assets
 pub mod Members
+pub mod OneFinancingTrade
 pub mod FinancingTrades
 pub mod Items
 pub mod SameRoles

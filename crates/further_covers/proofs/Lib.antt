@@ -1,5 +1,6 @@
 pub mod Members
 pub mod Sets
+pub mod OneItem
 pub mod Items
 pub mod PutIn
 pub mod Books
