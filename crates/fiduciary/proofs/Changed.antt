@@ -3,7 +3,6 @@ use Prim.Native.Nat.{ℕ, zero, suc, ◌≤◌, ◌<◌}
 use mathlib.Core.Path.{◌≡◌, refl, sym, ◌∙◌, ap}
 use mathlib.Core.Bool.{Bool, true, false}
 use mathlib.Core.List.{List, [], ◌∷◌, Memᴰ}
-use mathlib.Core.List
 use mathlib.Core.Logic.{◌⊎◌, inl, inr, ◌≢◌}
 use native.Mathlib.Omega.{arith}
 use lib.IntN.{ℤ, pos, nat_abs}
@@ -15,7 +14,6 @@ use Rattle.rules.specs.Rows.{sum_over, sums_of, rows_of}
 use Rattle.rules.specs.Filing.{Outcome, early, refused, accepted, outcome_of, Filing, filing_of, filing}
 use Rattle.fiduciary.specs.Former.{former_sums, former_filing_of, former_filing}
 use Rattle.fiduciary.specs.Claims.{fiduciary_deduction, DeductionShown, DeductedFiduciary, OneAmong, HoldsDeducted, ChangedJustThere}
-use mathlib.Core.List.Memᴰ
 use Rattle.fiduciary.proofs.Shown.{assets_shown, accepted_shown, none_shown}
 
 -- ---- nothing shown, nothing changed

@@ -13,7 +13,6 @@ use Rattle.rules.specs.Book.{Cover, WrittenCredit, Member, trade, written, baske
 use Rattle.rules.specs.Weigh.{written_in, covers_in}
 use Rattle.rules.specs.Register.{blank, draws_from, draws_of, draws_in, draws_over, unfit_for, draw_fault, drawn, settled, if_fit, settle}
 use Rattle.rules.proofs.Lists.{Every, or_left, or_right}
-use Rattle.rules.proofs.Lists
 use Rattle.laws.specs.Exposure.{CoversWithin, AllWithin}
 use Rattle.laws.proofs.Valid.{cause_none}
 use Rattle.laws.proofs.Each.{every_first, every_append}

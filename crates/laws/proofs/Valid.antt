@@ -2,19 +2,18 @@
 -- financing trade's securities and receivable within its gross asset. Assumes nothing.
 use Prim.Native.Nat.{ℕ, zero, suc, ◌+◌, ◌≤◌}
 use mathlib.Core.Path.{◌≡◌, refl}
-use mathlib.Core.Bool.{Bool, true, false, not, cond}
+use mathlib.Core.Bool.{Bool, true, false, cond}
 use mathlib.Core.List.{List}
 use native.Mathlib.Omega.{arith}
 use borrow.Author.Tests.{ltb-false}
 use lib.Dec.{eqb, leb, ltb}
 use lib.ListN.{length, drop}
 use Rattle.rules.specs.Word.{word, kind_of, size_of, amounts_in}
-use Rattle.rules.specs.Book.{trade, FinancingTrade, Item, asset, derivatives, financing, off_balance, Placed}
+use Rattle.rules.specs.Book.{FinancingTrade, Item, asset, derivatives, financing, off_balance, Placed}
 use Rattle.rules.specs.Run.{Turn, over, bad, some, ended, run_from, sound}
 use Rattle.rules.specs.Faults.{cause, asset_fault, financing_trade_fault}
 use Rattle.rules.specs.Read.{lacks, record_then, stands, asset_at, asset_turn, derivative_set_turn, financing_trade_at, financing_trade_turn, financing_member_turn, financing_set_at, financing_set_turn, off_balance_turn, item_of, placed, end_fault, item_turn, protections_of, items_of}
 use Rattle.rules.proofs.Lists.{Every, or_left}
-use Rattle.rules.proofs.Lists
 use Rattle.rules.proofs.Runs.{TurnHas, every_run}
 
 abbrev pub ValidTrade : FinancingTrade → Type 0

@@ -13,7 +13,6 @@ use Rattle.rules.specs.Book.{DerivativeSet, Item, derivatives, Placed}
 use Rattle.rules.specs.Read.{items_of}
 use Rattle.rules.specs.Register.{draws_in, draws_over}
 use Rattle.rules.specs.Rows.{sum_over}
-use Rattle.rules.specs.Filing.{accepted}
 use Rattle.rules.proofs.Lists.{total_append}
 use Rattle.laws.specs.ReadAs.{ReadAs}
 use Rattle.laws.proofs.Accepted.{accepted_is, is_accepted}

@@ -7,7 +7,6 @@ use native.Mathlib.Omega.{arith}
 use Rattle.rules.specs.Book.{total}
 use Rattle.rules.specs.Run.{Turn, over, bad, some, Run, with_one, then_run, run_from, sound}
 use Rattle.rules.proofs.Lists.{Every, Pairs}
-use Rattle.rules.proofs.Lists
 
 -- ---- what holds of every record
 

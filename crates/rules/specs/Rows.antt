@@ -1,6 +1,6 @@
 -- Document 01, "Rows": what each item puts into each row, in thousandths of the unit, and the twenty-two rows. Rows 2, 7, 8, 10, 13
 -- and 18 are negative in the template; here stand their sizes. Assumes nothing.
-use Rattle.std.specs.Prelude.{ℕ, ◌+◌, ◌-◌, ◌*◌, not, cond, List, [], ◌∷◌, ℤ, pos, neg_ℤ, ◌+ℤ◌}
+use Rattle.std.specs.Prelude.{ℕ, ◌+◌, ◌-◌, ◌*◌, cond, List, [], ◌∷◌, ℤ, pos, neg_ℤ, ◌+ℤ◌}
 use Rattle.rules.specs.declared.Bands.{Bands}
 use Rattle.rules.specs.declared.Sums.{Sums}
 use Rattle.rules.specs.Factors.{conversion_of}

@@ -14,7 +14,6 @@ use Rattle.rules.specs.Read.{head_of}
 use Rattle.rules.specs.Ratio.{tier1_of, ratio_of}
 use Rattle.rules.specs.Rows.{minus, sum_over, sums_of, on_balance, of_derivative_rows, of_financing_rows, of_off_balance_rows, exposure_row, rows_of}
 use Rattle.rules.proofs.Lists.{Every, total_le_all}
-use Rattle.rules.proofs.Lists
 use Rattle.laws.specs.Exposure.{exposure_of}
 use Rattle.theorems.specs.Claims.{AllRowsFit}
 use Rattle.laws.proofs.GoodHead.{good_head}

@@ -11,12 +11,10 @@ use Rattle.rules.specs.Book.{Asset, Member, DerivativeSet, FinancingTrade, Finan
 use Rattle.rules.specs.Weigh.{Tally, tally_of, net_of, margin_offsets, replacement_of, weighted_in, written_in, covers_in, on_day, netted_on, last_day, cash_netted, excess_of}
 use Rattle.rules.specs.Rows.{asset_rows, tally_in, sum_over}
 use Rattle.rules.proofs.Lists.{Pairs, pairs_total}
-use Rattle.rules.proofs.Lists
 use Rattle.rules.proofs.Weighted.{at_most}
 use Rattle.laws.proofs.Financing.{below_le}
 use Rattle.laws.specs.Exposure.{exposure_of, derivative_exposure, financing_exposure}
 use Rattle.two_desks.proofs.Related.{Kept, MoreAsset, MoreSet, MoreTrade, MoreFinancing, MoreItem, MorePlaced}
-use Rattle.two_desks.proofs.Related
 
 -- a mark that is lost
 lost : {X : Type 0} → Kept true false → X

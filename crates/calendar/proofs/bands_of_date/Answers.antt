@@ -1,6 +1,5 @@
 -- `bands_of_date` sums up the leap days of the years from that of the next end of February on. Assumes nothing.
 use native.Mathlib.Omega.{arith}
-use borrow.Author.Rules.{rules}
 use Rattle.calendar.proofs.Ends.{bands_are}
 use Rattle.calendar.proofs.bands_of_date.Goals as goal
 
