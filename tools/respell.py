@@ -78,7 +78,7 @@ def table(root):
     own, library, words = set(), set(), set()
     for p in files(root, ".antt"):
         text = read(p)
-        if os.path.basename(p) not in OWN_FILES or os.path.basename(os.path.dirname(p)) == "specs":
+        if os.path.basename(p) not in OWN_FILES or os.path.basename(os.path.dirname(p)) in ("specs", "proofs"):
             own |= set(declared(text))
         library |= set(borrowed(text, crates))
         for line in text.split("\n"):
