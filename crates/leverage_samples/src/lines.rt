@@ -1,41 +1,36 @@
 // The lines that are written.
 use filing::Answer;
-use libc::STDOUT_FILENO;
 use rules::{causes, verdicts};
+use std::io;
+use std::io::Write;
 use streams::{end_line, print_signed};
 
-fn print_three(number: u32, place: usize, verdict: u32) {
-    io::print_decimal(STDOUT_FILENO, number as u64);
-    io::write_all(STDOUT_FILENO, b" ");
-    io::print_decimal(STDOUT_FILENO, place as u64);
-    io::write_all(STDOUT_FILENO, b" ");
-    io::print_decimal(STDOUT_FILENO, verdict as u64);
+fn print_three<W: Write>(out: &mut W, number: u32, place: usize, verdict: u32) -> io::Result<()> {
+    write!(out, "{number} {place} {verdict}")
 }
 
 // "number 0, place 0 and the verdict (3 on refusal)"
-fn print_answer(a: Answer) {
+fn print_answer<W: Write>(out: &mut W, a: Answer) -> io::Result<()> {
     match a {
-        Answer::Refused { number, place } => print_three(number, place, verdicts::REFUSED),
-        Answer::Accepted(verdict) => print_three(causes::NONE, 0, verdict),
+        Answer::Refused { number, place } => print_three(out, number, place, verdicts::REFUSED),
+        Answer::Accepted(verdict) => print_three(out, causes::NONE, 0, verdict),
     }
 }
 
-fn print_rows(rows: &[i64]) {
-    let mut k = 0;
-    while k < rows.len() {
-        io::write_all(STDOUT_FILENO, b" ");
-        print_signed(rows[k]);
-        k += 1;
+fn print_rows<W: Write>(out: &mut W, rows: &[i64]) -> io::Result<()> {
+    for row in rows {
+        out.write_all(b" ")?;
+        print_signed(out, *row)?;
     }
+    Ok(())
 }
 
-pub fn print_line(a: Answer, rows: &[i64]) {
-    print_answer(a);
-    print_rows(rows);
-    end_line();
+pub fn print_line<W: Write>(out: &mut W, a: Answer, rows: &[i64]) -> io::Result<()> {
+    print_answer(out, a)?;
+    print_rows(out, rows)?;
+    end_line(out)
 }
 
-pub fn print_count(books: u64) {
-    io::print_decimal(STDOUT_FILENO, books);
-    io::write_all(STDOUT_FILENO, b" books\n");
+pub fn print_count<W: Write>(out: &mut W, books: u64) -> io::Result<()> {
+    writeln!(out, "{books} books")
 }

@@ -10,31 +10,48 @@ mod sample;
 
 use rules::limits;
 use sample::file_next;
+use std::fs::File;
+use std::io;
+use std::io::{BufWriter, Read, Write};
 
 // Files book after book; how many there were.
-fn file_each(fd: i32, bytes: &mut [u8], words: &mut [u32], rows: &mut [i64]) -> u64 {
-    let mut count = 0;
-    while count < 100000 && file_next(fd, bytes, words, rows) {
-        count += 1;
+fn file_each<R: Read, W: Write>(
+    input: &mut R,
+    out: &mut W,
+    bytes: &mut [u8],
+    words: &mut [u32],
+    rows: &mut [i64],
+) -> io::Result<u64> {
+    for count in 0..100000 {
+        if !file_next(input, out, bytes, words, rows)? {
+            return Ok(count);
+        }
     }
-    count
+    Ok(100000)
 }
 
-fn file_all(fd: i32) -> u64 {
+fn file_all<R: Read, W: Write>(input: &mut R, out: &mut W) -> io::Result<u64> {
     let mut bytes = [0u8; 65536];
     // a word more than a book may have, so that one is too long
     let mut words = [0u32; limits::BOOK_WORDS + 1];
     // two rows more than a filing writes
     let mut rows = [-1i64; limits::ROWS + 2];
-    file_each(fd, &mut bytes, &mut words, &mut rows)
+    file_each(input, out, &mut bytes, &mut words, &mut rows)
 }
 
-fn main() {
-    let fd = os::open_read(b"books");
-    if fd < 0 {
-        os::fail(b"books");
-        return;
+fn print_all<R: Read, W: Write>(input: &mut R, out: &mut W) -> io::Result<()> {
+    let count = file_all(input, out)?;
+    lines::print_count(out, count)?;
+    out.flush()
+}
+
+fn main(rt: HostRuntime) -> io::Result<()> {
+    match File::open(&rt, "books") {
+        Ok(mut books) => {
+            // some hundred thousand numbers are written, so not each by itself
+            let mut out = BufWriter::new(rt.alloc(), io::writer(&rt))?;
+            print_all(&mut books, &mut out)
+        }
+        Err(e) => eprintln!(rt; "books: {e}"),
     }
-    lines::print_count(file_all(fd));
-    libc::close(fd);
 }

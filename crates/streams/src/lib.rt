@@ -1,12 +1,17 @@
 // What the programs read and write: words out of bytes, and numbers in decimal digits.
 #![tactic(auto)]
 
-ghost use Rattle.std.specs.Prelude.{◌*◌, ◌≤◌, length};
+ghost use Rattle.std.specs.Prelude.{◌≡◌, ◌+◌, ◌*◌, ◌≤◌, length, IfOk, OnOk, unsigned_abs, [], ◌∷◌};
+ghost use Rattle.std.specs.Io.KnownBytes.{Appends};
+ghost use Rattle.std.specs.Fmt.{signed_decimal};
 
-use libc::STDOUT_FILENO;
+use std::io;
+use std::io::{Read, Write};
 
 // A little-endian word of four bytes.
-pub fn word_of(a: u8, b: u8, c: u8, d: u8) -> u32 {
+pub fn word_of(a: u8, b: u8, c: u8, d: u8) -> u32
+    ensures { result ≡ a + 256 * b + 65536 * c + 16777216 * d }
+{
     (a as u32) + 256 * (b as u32) + 65536 * (c as u32) + 16777216 * (d as u32)
 }
 
@@ -14,27 +19,47 @@ pub fn word_of(a: u8, b: u8, c: u8, d: u8) -> u32 {
 pub fn gather(bytes: &[u8], words: &mut [u32], n: usize)
     requires { (n ≤ length words.old) × (4 * n ≤ length bytes.now) }
 {
-    let mut i = 0;
-    while i < n {
+    for i in 0..n {
         let at = 4 * i;
         words[i] = word_of(bytes[at], bytes[at + 1], bytes[at + 2], bytes[at + 3]);
-        i += 1;
     }
 }
 
+// Reads until the buffer is full or the input ends, and says how many bytes there were: one read of a pipe may give fewer than are
+// still to come.
+pub fn read_full<R: Read>(input: &mut R, bytes: &mut [u8]) -> io::Result<usize>
+    ensures { IfOk result (λ n. n ≤ length bytes.new) }
+{
+    let mut done = 0;
+    while done < bytes.len() {
+        let n = input.read(&mut bytes[done..])?;
+        if n == 0 {
+            break;
+        }
+        done += n;
+    }
+    Ok(done)
+}
+
 // A number without its sign; -1 - z fits wherever z does, and -z does not.
-fn magnitude(z: i64) -> u64 {
+fn magnitude(z: i64) -> u64
+    ensures { result ≡ unsigned_abs z }
+{
     if z < 0 { (-1 - z) as u64 + 1 } else { z as u64 }
 }
 
 // A signed number in decimal digits.
-pub fn print_signed(value: i64) {
+pub fn print_signed<W: Write>(out: &mut W, value: i64) -> io::Result<()>
+    ensures { OnOk result (Appends (W.contents out.old) (W.contents out.new) (signed_decimal value)) }
+{
     if value < 0 {
-        io::write_all(STDOUT_FILENO, b"-");
+        out.write_all(b"-")?;
     }
-    io::print_decimal(STDOUT_FILENO, magnitude(value));
+    write!(out, "{}", magnitude(value))
 }
 
-pub fn end_line() {
-    io::write_all(STDOUT_FILENO, b"\n");
+pub fn end_line<W: Write>(out: &mut W) -> io::Result<()>
+    ensures { OnOk result (Appends (W.contents out.old) (W.contents out.new) (10 ∷ [])) }
+{
+    out.write_all(b"\n")
 }
