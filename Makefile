@@ -16,7 +16,10 @@ SAMPLES = 4000
 CARGO = cd compare && cargo build -q --release --offline
 MODEL = target/model/release/compare
 COMPARE = target/compare/release/compare
-ARCHIVE = target/staticlib/libleverage.a
+PRINT = crates/leverage_print/out/leverage_print
+# What `rt lib` builds stays in each crate's out/; callers find both archives in one folder.
+ARCHIVES = target/staticlib
+ARCHIVE = $(ARCHIVES)/libleverage.a
 
 .PHONY: run test samples model printing compare example bench printer second library
 ifdef SETTINGS
@@ -30,7 +33,7 @@ run: second printer
 	@$(MODEL) text $(BOOK) > target/input
 	@cat $(BOOK)
 	@echo
-	@target/bin/leverage_print < target/input
+	@$(PRINT) < target/input
 endif
 
 test:
@@ -49,7 +52,7 @@ model: second
 # Both printing programs on the same input: books, bytes that are none, as many words as there is room for and one more.
 ROOM = 16384
 HEAD_AND_END = 4
-SAME = target/bin/leverage_print < target/input > target/printed && $(MODEL) print < target/input | cmp - target/printed
+SAME = $(PRINT) < target/input > target/printed && $(MODEL) print < target/input | cmp - target/printed
 printing: second printer
 	@for book in compare/books/*.txt; do $(MODEL) text $$book > target/input && $(SAME) || exit 1; done
 	@for size in 0 3 8 65536 65537 65540; do head -c $$size /dev/zero > target/input && $(SAME) || exit 1; done
@@ -62,19 +65,20 @@ example: library
 	@sed -n '/^```c$$/,/^```$$/{/^```/d;p;}' README.md > target/readme.c
 	@sed -n '/^```rust$$/,/^```$$/{/^```/d;p;}' README.md > target/readme.rs
 	@for c in include/example.c target/readme.c; do cc -Wall -Werror -Iinclude $$c $(ARCHIVE) -o target/caller && target/caller || exit 1; done
-	@rustc -D warnings -L target/staticlib target/readme.rs -o target/caller && target/caller
+	@rustc -D warnings -L $(ARCHIVES) target/readme.rs -o target/caller && target/caller
 
 bench: library
 	@$(COMPARE) bench
 
 printer:
-	@test -x target/bin/leverage_print || echo "proving leverage_print: some minutes, once" >&2
-	@rt check leverage_print > /dev/null 2>&1 || rt check leverage_print
+	@test -x $(PRINT) || echo "proving leverage_print: some minutes, once" >&2
+	@cd crates/leverage_print && { rt run < stdin > /dev/null 2>&1 || rt run < stdin; }
 
 # The implementation in compare/ alone, and with the library and the benchmark's archive.
 second:
 	@$(CARGO) --target-dir ../target/model
 
 library:
-	@for crate in leverage addon_bench; do rt staticlib $$crate > /dev/null 2>&1 || rt staticlib $$crate || exit 1; done
-	@LEVERAGE_LIB="$(CURDIR)/target/staticlib" && export LEVERAGE_LIB && $(CARGO) --features library --target-dir ../target/compare
+	@for crate in leverage addon_bench; do (cd crates/$$crate && { rt lib > /dev/null 2>&1 || rt lib; }) || exit 1; done
+	@mkdir -p $(ARCHIVES) && cp -p crates/leverage/out/libleverage.a crates/addon_bench/out/libaddon_bench.a $(ARCHIVES)
+	@LEVERAGE_LIB="$(CURDIR)/$(ARCHIVES)" && export LEVERAGE_LIB && $(CARGO) --features library --target-dir ../target/compare
