@@ -1,8 +1,9 @@
 // What the programs read and write: words out of bytes, and numbers in decimal digits.
 #![tactic(auto)]
 
-ghost use Rattle.std.specs.Prelude.{◌≡◌, ◌+◌, ◌*◌, ◌≤◌, length, IfOk, OnOk, unsigned_abs, [], ◌∷◌};
-ghost use Rattle.std.specs.Io.KnownBytes.{Appends};
+ghost use Rattle.std.specs.Prelude.{◌≡◌, ℕ, ◌*◌, ◌<◌, ◌≤◌, length, take, slice_index, IfOk, OnOk, unsigned_abs, [], ◌∷◌};
+ghost use Rattle.std.specs.Io.KnownBytes.{Appends, Consumes, IsAtEnd};
+ghost use Rattle.streams.specs.Words.{word, word_at};
 ghost use Rattle.std.specs.Fmt.{signed_decimal};
 
 use std::io;
@@ -10,7 +11,7 @@ use std::io::{Read, Write};
 
 // A little-endian word of four bytes.
 pub fn word_of(a: u8, b: u8, c: u8, d: u8) -> u32
-    ensures { result ≡ a + 256 * b + 65536 * c + 16777216 * d }
+    ensures { result ≡ word a b c d }
 {
     (a as u32) + 256 * (b as u32) + 65536 * (c as u32) + 16777216 * (d as u32)
 }
@@ -18,6 +19,8 @@ pub fn word_of(a: u8, b: u8, c: u8, d: u8) -> u32
 // The first n words of the bytes, four bytes to a word.
 pub fn gather(bytes: &[u8], words: &mut [u32], n: usize)
     requires { (n ≤ length words.old) × (4 * n ≤ length bytes.now) }
+    ensures gathered { (k : ℕ) → k < n → slice_index words.new k ≡ word_at bytes.now k }
+    ensures kept { (k : ℕ) → n ≤ k → slice_index words.new k ≡ slice_index words.old k }
 {
     for i in 0..n {
         let at = 4 * i;
@@ -28,7 +31,9 @@ pub fn gather(bytes: &[u8], words: &mut [u32], n: usize)
 // Reads until the buffer is full or the input ends, and says how many bytes there were: one read of a pipe may give fewer than are
 // still to come.
 pub fn read_full<R: Read>(input: &mut R, bytes: &mut [u8]) -> io::Result<usize>
-    ensures { IfOk result (λ n. n ≤ length bytes.new) }
+    ensures within { IfOk result (λ n. n ≤ length bytes.new) }
+    ensures read { IfOk result (λ n. Consumes (R.remaining input.old) (R.remaining input.new) (take n bytes.new)) }
+    ensures end { IfOk result (λ n. n < length bytes.new → IsAtEnd (R.remaining input.new)) }
 {
     let mut done = 0;
     while done < bytes.len() {
