@@ -1,7 +1,9 @@
 // Prints the template of the book on standard input (document 01, "The printing program").
 #![tactic(auto)]
 
-ghost use Rattle.std.specs.Prelude.{◌≤◌, length};
+ghost use Rattle.std.specs.Prelude.{◌≡◌, ◌%◌, ◌≤◌, IfSome, OnOk, length};
+ghost use Rattle.std.specs.Io.KnownBytes.{Appends};
+ghost use Rattle.leverage_print.specs.Printed.{IsPrinted, ShowsFiling, Writes, refused_line, row_line, row_lines, verdict_line};
 
 use filing::Answer;
 use filing::alone::file_alone;
@@ -15,27 +17,41 @@ const OWN_WORDS: usize = 16384;
 
 const OWN_BYTES: usize = 4 * OWN_WORDS;
 
+fn print_row<W: Write>(out: &mut W, number: usize, value: i64) -> io::Result<()>
+    ensures { OnOk result (Appends (W.contents out.old) (W.contents out.new) (row_line number value)) }
+{
+    write!(out, "{number} ")?;
+    print_signed(out, value)?;
+    end_line(out)
+}
+
 // "22 lines of row number, space, value"
-fn print_rows<W: Write>(out: &mut W, rows: [i64; limits::ROWS]) -> io::Result<()> {
+fn print_rows<W: Write>(out: &mut W, rows: [i64; limits::ROWS]) -> io::Result<()>
+    ensures { OnOk result (Appends (W.contents out.old) (W.contents out.new) (row_lines rows 22)) }
+{
     for k in 0..limits::ROWS {
-        write!(out, "{} ", k + 1)?;
-        print_signed(out, rows[k])?;
-        end_line(out)?;
+        print_row(out, k + 1, rows[k])?;
     }
     Ok(())
 }
 
-fn print_refused<W: Write>(out: &mut W, number: u32, place: usize) -> io::Result<()> {
+fn print_refused<W: Write>(out: &mut W, number: u32, place: usize) -> io::Result<()>
+    ensures { OnOk result (Appends (W.contents out.old) (W.contents out.new) (refused_line number place)) }
+{
     writeln!(out, "refused {number} at {place}")
 }
 
-fn print_verdict<W: Write>(out: &mut W, verdict: u32) -> io::Result<()> {
+fn print_verdict<W: Write>(out: &mut W, verdict: u32) -> io::Result<()>
+    ensures { OnOk result (Appends (W.contents out.old) (W.contents out.new) (verdict_line verdict)) }
+{
     writeln!(out, "verdict {verdict}")
 }
 
 // Files the words of the bytes, and prints what came of it.
 fn print_filed<W: Write>(out: &mut W, bytes: &[u8]) -> io::Result<()>
-    requires { length bytes.now ≤ 65536 }
+    requires whole { length bytes.now % 4 ≡ 0 }
+    requires room { length bytes.now ≤ 65536 }
+    ensures { OnOk result (Writes (W.contents out.old) (W.contents out.new) (ShowsFiling bytes.now)) }
 {
     let n = bytes.len() / 4;
     let mut words = [0u32; OWN_WORDS];
@@ -51,7 +67,10 @@ fn print_filed<W: Write>(out: &mut W, bytes: &[u8]) -> io::Result<()>
 }
 
 // Reads a book and prints its template, or what is wrong with the input.
-fn print_template<R: Read, W: Write>(input: &mut R, out: &mut W) -> io::Result<()> {
+fn print_template<R: Read, W: Write>(input: &mut R, out: &mut W) -> io::Result<()>
+    ensures { OnOk result (IfSome (R.remaining input.old)
+        (λ bytes. Writes (W.contents out.old) (W.contents out.new) (IsPrinted bytes))) }
+{
     // a byte more than its own words have, so that more is seen
     let mut bytes = [0u8; OWN_BYTES + 1];
     let n = read_full(input, &mut bytes)?;
