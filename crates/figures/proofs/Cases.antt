@@ -1,13 +1,12 @@
 -- The band and the reset floor at each of their cases, as the code tells them apart: by orders of numbers. Assumes nothing.
-use mathlib.Core.Path.{◌≡◌, refl, sym}
-use mathlib.Core.Bool.{Bool, true, false, cond, ◌&&◌, and-false}
-use Prim.Native.Nat.{ℕ, ◌+◌, max, ◌≤◌, ◌<◌}
+use mathlib.Core.Path.{◌≡◌}
+use mathlib.Core.Bool.{and-false}
+use Prim.Native.Nat.{ℕ, ◌≤◌, ◌<◌}
 use native.Mathlib.Omega.{arith}
-use native.Mathlib.Nat.{zero-add}
-use borrow.Author.Tests.{le-leb, lt-leb, eqb-true, ltb-true, eq-eqb, ne_eqb, lt-ltb, le-ltb}
-use lib.Dec.{eqb, leb, ltb}
+use borrow.Author.Tests.{le-leb, lt-leb, eq-eqb, ne_eqb, lt-ltb, le-ltb}
+use lib.Dec.{eqb, ltb}
 use Rattle.rules.specs.declared.Bands.{Bands}
-use Rattle.rules.specs.Factors.{band_of, factor_at, market_factor}
+use Rattle.rules.specs.Factors.{band_of}
 use Rattle.figures.specs.Floor.{floor_of}
 
 -- ---- bands

@@ -1,6 +1,5 @@
 -- `conversion` gives the lower of two figures. Assumes nothing.
 use native.Mathlib.Omega.{arith}
-use borrow.Author.Rules.{rules}
 use Rattle.figures.proofs.Figures.{looked_up}
 use Rattle.figures.proofs.conversion.conversion.Goals as goal
 

@@ -1,6 +1,5 @@
 -- `gain` at each value of the sign. Assumes nothing.
 use mathlib.Core.Path.{sym}
-use borrow.Author.Rules.{rules}
 use Rattle.rules.specs.Word.{gain_of}
 use Rattle.words.proofs.amount.gain.Goals as goal
 

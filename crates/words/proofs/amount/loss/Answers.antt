@@ -1,6 +1,5 @@
 -- `loss` at each value of the sign. Assumes nothing.
 use mathlib.Core.Path.{sym}
-use borrow.Author.Rules.{rules}
 use Rattle.rules.specs.Word.{loss_of}
 use Rattle.words.proofs.amount.loss.Goals as goal
 

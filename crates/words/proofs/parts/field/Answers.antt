@@ -3,8 +3,6 @@ use mathlib.Core.Path.{sym}
 use Prim.Native.Nat.{◌/◌, ◌^◌}
 use native.Mathlib.Omega.{arith}
 use lib.Bits.{and_mask}
-use lib.Pow.{pow_pos}
-use borrow.Author.Rules.{rules}
 use Rattle.words.proofs.Masks.{field_beyond, field_whole, shifted_one}
 use Rattle.words.proofs.parts.field.Goals as goal
 
