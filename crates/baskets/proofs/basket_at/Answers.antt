@@ -1,5 +1,4 @@
 use native.Mathlib.Omega.{arith}
-use borrow.Author.Rules.{rules}
 use Rattle.baskets.proofs.Reading.{read_short, read_refused, read_whole}
 use Rattle.baskets.proofs.basket_at.Goals as goal
 

@@ -1,4 +1,3 @@
-use borrow.Author.Rules.{rules}
 use Rattle.baskets.specs.Words.{cause_of}
 use Rattle.baskets.proofs.faults.basket_fault.Goals as goal
 

@@ -1,9 +1,4 @@
-use native.Mathlib.Omega.{arith}
-use borrow.Author.Rules.{rules}
-use Prim.Native.Nat.{◌-◌}
-use lib.ListN.{length, take}
-use Rattle.baskets.proofs.Gathering.{Gathering, gathering_start, gathering_next, gathering_end}
-use Rattle.baskets.proofs.Reading.{words_are}
+use Rattle.baskets.proofs.Gathering.{gathering_next}
 use Rattle.baskets.proofs.read.basket_words.Goals as goal
 
 pub loop-i-preserved : goal.loop-i-preserved

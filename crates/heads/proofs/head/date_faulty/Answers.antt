@@ -1,4 +1,3 @@
-use borrow.Author.Rules.{rules}
 use Rattle.heads.proofs.DateLaws.{faulty_is}
 use Rattle.heads.proofs.head.date_faulty.Goals as goal
 

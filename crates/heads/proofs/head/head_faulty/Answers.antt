@@ -3,7 +3,6 @@ use borrow.Author.Tests.{lt-ltb, le-ltb, eq-eqb, ne_eqb}
 use lib.ListN.{length}
 use Rattle.rules.specs.Read.{first_record, head_faulty}
 use Rattle.rules.proofs.Lists.{or_true}
-use borrow.Author.Rules.{rules}
 use Rattle.heads.proofs.head.head_faulty.Goals as goal
 
 pub returns-then-book-lt-HEAD : goal.returns-then-book-lt-HEAD

@@ -1,6 +1,5 @@
 use mathlib.Core.Path.{sym, ◌∙◌}
 use native.Mathlib.Omega.{arith}
-use borrow.Author.Rules.{rules}
 use Rattle.heads.proofs.DateLaws.{faulty_date, good_date, good_within}
 use Rattle.heads.proofs.head.reporting_date.Goals as goal
 

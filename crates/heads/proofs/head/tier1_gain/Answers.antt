@@ -1,5 +1,4 @@
 use Rattle.rules.specs.Read.{head_of}
-use borrow.Author.Rules.{rules}
 use Rattle.heads.proofs.head.tier1_gain.Goals as goal
 
 pub returns : goal.returns

@@ -1,5 +1,4 @@
 use Rattle.rules.specs.Faults.{asset_fault}
-use borrow.Author.Rules.{rules}
 use Rattle.records.proofs.assets.asset_fault.Goals as goal
 
 pub returns : goal.returns

@@ -1,6 +1,5 @@
 use native.Mathlib.Omega.{arith}
 use Rattle.records.proofs.Good.{carried_is}
-use borrow.Author.Rules.{rules}
 use Rattle.records.proofs.assets.carried_by.Goals as goal
 
 pub returns : goal.returns

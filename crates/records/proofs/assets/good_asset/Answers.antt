@@ -2,7 +2,6 @@ use native.Mathlib.Omega.{arith}
 use mathlib.Core.Path.{◌∙◌, ap}
 use Rattle.records.specs.Step.{good_asset}
 use Rattle.records.proofs.Good.{no_asset, asset_is}
-use borrow.Author.Rules.{rules}
 use Rattle.records.proofs.assets.good_asset.Goals as goal
 
 pub returns-then-end-at : goal.returns-then-end-at

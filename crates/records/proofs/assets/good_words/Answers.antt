@@ -1,5 +1,4 @@
 use Rattle.records.specs.Step.{good_asset}
-use borrow.Author.Rules.{rules}
 use Rattle.records.proofs.assets.good_words.Goals as goal
 
 pub returns : goal.returns

@@ -1,5 +1,4 @@
 use Rattle.records.specs.Step.{good_off_balance}
-use borrow.Author.Rules.{rules}
 use Rattle.records.proofs.commitments.good_words.Goals as goal
 
 pub returns : goal.returns

@@ -1,6 +1,5 @@
 use Rattle.records.specs.Step.{off_balance_cause}
 use Rattle.records.proofs.Words.{whole, cause_lacking, cause_there}
-use borrow.Author.Rules.{rules}
 use Rattle.records.proofs.commitments.off_balance_cause.Goals as goal
 
 pub returns-then-lacking : goal.returns-then-lacking

@@ -1,5 +1,4 @@
 use Rattle.rules.specs.Faults.{off_balance_fault}
-use borrow.Author.Rules.{rules}
 use Rattle.records.proofs.commitments.off_balance_fault.Goals as goal
 
 pub returns : goal.returns

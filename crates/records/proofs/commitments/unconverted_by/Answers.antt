@@ -2,8 +2,6 @@ use native.Mathlib.Omega.{arith}
 use Rattle.rules.specs.Word.{field_of}
 use Rattle.rules.specs.Read.{off_balance_at}
 use Rattle.laws.proofs.FactorBounds.{conversion_at_most}
-use Rattle.records.proofs.Good.{unconverted_small}
-use borrow.Author.Rules.{rules}
 use Rattle.records.proofs.commitments.unconverted_by.Goals as goal
 
 pub overflow_sub-result : goal.overflow_sub-result

@@ -1,11 +1,5 @@
 -- `lacking` goes from the last word to the first. Assumes nothing.
-use Prim.Native.Nat.{◌+◌, ◌≤◌, ◌<◌}
-use mathlib.Core.Path.{◌≡◌, refl}
-use mathlib.Core.Bool.{◌||◌}
 use native.Mathlib.Omega.{arith}
-use borrow.Author.Rules.{rules}
-use lib.ListN.{length}
-use Rattle.rules.specs.Read.{lacks}
 use Rattle.records.proofs.Words.{lacking_short, lacking_next, lacking_end}
 use Rattle.records.proofs.presence.lacking.Goals as goal
 

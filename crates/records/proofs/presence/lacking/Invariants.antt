@@ -1,11 +1,8 @@
 use Prim.Native.Nat.{◌+◌, ◌≤◌, ◌<◌}
-use mathlib.Core.Path.{◌≡◌, refl}
+use mathlib.Core.Path.{◌≡◌}
 use mathlib.Core.Bool.{◌||◌}
-use native.Mathlib.Omega.{arith}
-use borrow.Author.Rules.{rules}
 use lib.ListN.{length}
 use Rattle.rules.specs.Read.{lacks}
-use Rattle.records.proofs.Words.{lacking_short, lacking_next, lacking_end}
 use Rattle.records.proofs.presence.lacking.Given as goal
 
 abbrev pub invariant-loop-i : goal.invariant-loop-i

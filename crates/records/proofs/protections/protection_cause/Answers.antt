@@ -1,7 +1,5 @@
-use native.Mathlib.Omega.{arith}
 use Rattle.records.specs.Step.{protection_cause}
 use Rattle.records.proofs.Words.{cause_lacking, cause_there}
-use borrow.Author.Rules.{rules}
 use Rattle.records.proofs.protections.protection_cause.Goals as goal
 
 pub returns-then-lacking : goal.returns-then-lacking

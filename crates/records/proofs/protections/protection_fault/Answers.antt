@@ -1,5 +1,4 @@
 use Rattle.rules.specs.Faults.{protection_fault}
-use borrow.Author.Rules.{rules}
 use Rattle.records.proofs.protections.protection_fault.Goals as goal
 
 pub returns : goal.returns

@@ -1,5 +1,4 @@
 -- The sums that count up less those that count down are row 21. Assumes nothing.
-use borrow.Author.Rules.{rules}
 use Rattle.template.proofs.Sections.{exposure_is}
 use Rattle.template.proofs.exposure.exposure.Goals as goal
 

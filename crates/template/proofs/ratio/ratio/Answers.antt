@@ -1,13 +1,10 @@
 -- Each return of `ratio` is at a case of its definition. Assumes nothing.
 use mathlib.Core.Path.{sym, ap, ◌∙◌}
 use Prim.Native.Nat.{ℕ, ◌*◌, ◌/◌}
-use native.Mathlib.Nat.{div-le_self}
 use native.Mathlib.Omega.{arith}
 use lib.IntN.{pos, neg_ℤ}
-use borrow.Author.Rules.{rules}
 use Rattle.rules.specs.Ratio.{tier1_of}
 use Rattle.rules.specs.Weighted.{ceil}
-use Rattle.rules.proofs.Ceil.{ceil_small}
 use Rattle.rules.proofs.RatioCases.{ratio_none, ratio_gain, ratio_loss}
 use Rattle.template.proofs.Reading.{read}
 use Rattle.template.proofs.ratio.ratio.Goals as goal

@@ -1,7 +1,6 @@
 -- Each return of `verdict` is at a case of its definition. Assumes nothing.
 use mathlib.Core.Path.{sym}
 use native.Mathlib.Omega.{arith}
-use borrow.Author.Rules.{rules}
 use Rattle.rules.specs.Ratio.{tier1_of}
 use Rattle.rules.proofs.RatioCases.{verdict_none, verdict_met, verdict_missed}
 use Rattle.template.proofs.ratio.verdict.Goals as goal

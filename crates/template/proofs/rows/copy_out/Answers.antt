@@ -1,11 +1,7 @@
 -- The rows below i are copied (Copying). Assumes nothing.
-use Prim.Native.Nat.{◌-◌, ◌≤◌}
-use mathlib.Core.List.{◌++◌}
-use mathlib.Core.Path.{◌≡◌, refl}
 use native.Mathlib.Omega.{arith}
-use lib.ListN.{length, take, drop, length-set}
-use borrow.Author.Rules.{rules}
-use Rattle.template.proofs.Copying.{copy_next, copy_done}
+use lib.ListN.{length-set}
+use Rattle.template.proofs.Copying.{copy_next}
 use Rattle.template.proofs.rows.copy_out.Goals as goal
 
 pub loop-i-preserved : goal.loop-i-preserved

@@ -1,5 +1,4 @@
 -- Each row is a difference that `signed` gave. Assumes nothing.
-use borrow.Author.Rules.{rules}
 use Rattle.rules.proofs.Differences.{of_pos, of_minus}
 use Rattle.template.proofs.Sections.{row, derivatives_are}
 use Rattle.template.proofs.rows.derivative_rows.Goals as goal

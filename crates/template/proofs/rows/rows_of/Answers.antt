@@ -1,5 +1,4 @@
 -- The sections one after the other are the rows. Assumes nothing.
-use borrow.Author.Rules.{rules}
 use Rattle.template.proofs.Sections.{sections_are}
 use Rattle.template.proofs.rows.rows_of.Goals as goal
 

@@ -1,6 +1,5 @@
 -- At each of the two ends, and between them, it is the definition. Assumes nothing.
 use native.Mathlib.Omega.{arith}
-use borrow.Author.Rules.{rules}
 use Rattle.weights.proofs.Ends.{at_whole, at_two_fifths}
 use Rattle.weights.proofs.addon.weighted.Goals as goal
 

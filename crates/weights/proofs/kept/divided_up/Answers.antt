@@ -1,7 +1,6 @@
 use Prim.Native.Nat.{◌^◌}
 use native.Mathlib.Omega.{arith}
-use Rattle.weights.proofs.Proportion.{raised, raised_enough}
-use borrow.Author.Rules.{rules}
+use Rattle.weights.proofs.Proportion.{raised}
 use Rattle.weights.proofs.kept.divided_up.Goals as goal
 
 pub returns : goal.returns

@@ -1,7 +1,6 @@
 -- Without cover, with a cover of the whole notional or more, and between the two. Assumes nothing.
 use native.Mathlib.Omega.{arith}
 use Rattle.rules.proofs.Kept.{kept_some, kept_rate, kept_within, kept_beyond}
-use Rattle.weights.proofs.Proportion.{product_small}
 use Rattle.weights.proofs.kept.kept_in.Goals as goal
 
 pub returns-then-covered-eq0 : goal.returns-then-covered-eq0
