@@ -1,5 +1,4 @@
-use Rattle.records.proofs.Words.{whole, cause_lacking, cause_there}
-use borrow.Author.Rules.{rules}
+use Rattle.records.proofs.Words.{whole}
 use Rattle.weighing.proofs.set_cause.Goals as goal
 
 pub set_words-requires : goal.set_words-requires

@@ -1,7 +1,5 @@
 -- Refused, or the weighted add-on, by whichever way. Assumes nothing.
 use mathlib.Core.Path.{refl}
-use native.Mathlib.Omega.{arith}
-use borrow.Author.Rules.{rules}
 use Rattle.addon_bench.proofs.Answers.{refusing, taken}
 use Rattle.addon_bench.proofs.export.answer.Goals as goal
 

@@ -1,7 +1,6 @@
 -- A share rounded up is the definition. Assumes nothing.
 use mathlib.Core.Path.{◌∙◌}
 use native.Mathlib.Omega.{arith}
-use borrow.Author.Rules.{rules}
 use Rattle.weights.proofs.Ends.{from_share}
 use Rattle.addon_bench.proofs.halving.by_halving.Goals as goal
 

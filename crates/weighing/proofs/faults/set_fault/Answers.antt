@@ -1,5 +1,4 @@
 use Rattle.rules.specs.Faults.{derivative_set_fault}
-use borrow.Author.Rules.{rules}
 use Rattle.weighing.proofs.faults.set_fault.Goals as goal
 
 pub returns : goal.returns

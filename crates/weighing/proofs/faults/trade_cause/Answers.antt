@@ -1,5 +1,4 @@
-use Rattle.records.proofs.Words.{whole, cause_lacking, cause_there}
-use borrow.Author.Rules.{rules}
+use Rattle.records.proofs.Words.{whole}
 use Rattle.weighing.proofs.faults.trade_cause.Goals as goal
 
 pub trade_words-requires : goal.trade_words-requires

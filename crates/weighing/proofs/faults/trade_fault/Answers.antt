@@ -1,5 +1,4 @@
 use Rattle.rules.specs.Faults.{trade_fault}
-use borrow.Author.Rules.{rules}
 use Rattle.weighing.proofs.faults.trade_fault.Goals as goal
 
 pub returns : goal.returns

@@ -1,5 +1,4 @@
 use Rattle.rules.specs.Faults.{written_fault}
-use borrow.Author.Rules.{rules}
 use Rattle.weighing.proofs.faults.written_fault.Goals as goal
 
 pub returns : goal.returns

@@ -2,7 +2,6 @@ use native.Mathlib.Omega.{arith}
 use mathlib.Core.Path.{◌∙◌, ap}
 use Rattle.weighing.specs.Words.{good_trade}
 use Rattle.weighing.proofs.GoodRecords.{no_trade, trade_is}
-use borrow.Author.Rules.{rules}
 use Rattle.weighing.proofs.good.good_trade.Goals as goal
 
 pub returns-then-end-at : goal.returns-then-end-at

@@ -1,5 +1,4 @@
 use Rattle.weighing.specs.Words.{good_trade}
-use borrow.Author.Rules.{rules}
 use Rattle.weighing.proofs.good.trade_words_good.Goals as goal
 
 pub returns : goal.returns

@@ -1,5 +1,4 @@
 use Rattle.weighing.specs.Words.{good_written}
-use borrow.Author.Rules.{rules}
 use Rattle.weighing.proofs.good.written_words_good.Goals as goal
 
 pub returns : goal.returns

@@ -1,6 +1,5 @@
 use Rattle.rules.specs.Read.{derivative_set_at}
 use Rattle.weighing.proofs.Truth.{five_bits}
-use borrow.Author.Rules.{rules}
 use Rattle.weighing.proofs.rows.margin_counts.Goals as goal
 
 pub returns : goal.returns

@@ -1,5 +1,4 @@
 use Rattle.weighing.specs.Gathered.{replaced_by}
-use borrow.Author.Rules.{rules}
 use Rattle.weighing.proofs.rows.replacement.Goals as goal
 
 pub returns-then-netting : goal.returns-then-netting

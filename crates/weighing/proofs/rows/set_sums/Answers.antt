@@ -3,7 +3,6 @@ use mathlib.Core.Path.{◌∙◌}
 use native.Mathlib.Omega.{arith}
 use Rattle.rules.specs.Read.{derivative_set_at}
 use Rattle.weighing.proofs.SetRows.{replaced_under, weighted_under, weighted_less, replaced_is, weighted_is}
-use borrow.Author.Rules.{rules}
 use Rattle.weighing.proofs.rows.set_sums.Goals as goal
 
 pub overflow_mul-replaced : goal.overflow_mul-replaced

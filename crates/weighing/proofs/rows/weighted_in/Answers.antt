@@ -1,5 +1,4 @@
 use Rattle.weighing.specs.Gathered.{weighted_by}
-use borrow.Author.Rules.{rules}
 use Rattle.weighing.proofs.rows.weighted_in.Goals as goal
 
 pub returns-then-netting : goal.returns-then-netting

@@ -1,13 +1,10 @@
 -- The written add-on, as the law of its bound says. Assumes nothing.
 use Prim.Native.Nat.{◌*◌}
-use native.Mathlib.Omega.{arith}
 use Rattle.rules.specs.Word.{bit_of, size_of}
 use Rattle.rules.specs.Factors.{credit_factor}
 use Rattle.rules.specs.Read.{written_at}
 use Rattle.rules.specs.Weigh.{written_add_on}
-use Rattle.laws.proofs.FactorBounds.{credit_at_most, credit_product}
 use Rattle.weighing.proofs.AddOns.{bounded_is}
-use borrow.Author.Rules.{rules}
 use Rattle.weighing.proofs.tally.written_add_on.Goals as goal
 
 pub returns : goal.returns

@@ -3,7 +3,6 @@ use native.Mathlib.Omega.{arith}
 use Rattle.rules.specs.Read.{trade_at}
 use Rattle.laws.proofs.FactorBounds.{trade_add_on_lem}
 use Rattle.weighing.specs.Words.{trade_of}
-use borrow.Author.Rules.{rules}
 use Rattle.weighing.proofs.tally.Tally.add_trade.Goals as goal
 
 pub overflow_add-self-3 : goal.overflow_add-self-3

@@ -3,7 +3,6 @@ use Rattle.rules.specs.Read.{written_at}
 use Rattle.laws.proofs.FactorBounds.{written_add_on_lem}
 use Rattle.weighing.specs.Words.{written_of}
 use Rattle.weighing.proofs.AddOns.{remainder_is}
-use borrow.Author.Rules.{rules}
 use Rattle.weighing.proofs.tally.Tally.add_written.Goals as goal
 
 pub overflow_add-self : goal.overflow_add-self
