@@ -1,29 +1,24 @@
 -- The loop over a run of trades, and what its set makes of it. Assumes nothing.
-use Prim.Native.Nat.{ℕ, suc, ◌+◌, ◌-◌, ◌/◌, ◌%◌, ◌^◌, ◌≤◌, ◌<◌}
-use mathlib.Core.Path.{◌≡◌, refl, sym, ◌∙◌, ap}
-use mathlib.Core.Bool.{Bool, true, false, cond, not, ◌&&◌, ◌||◌, and-false, true≢false}
+use Prim.Native.Nat.{ℕ, ◌+◌, ◌≤◌}
+use mathlib.Core.Path.{◌≡◌, refl, sym, ◌∙◌}
+use mathlib.Core.Bool.{Bool, true, false, true≢false}
 use mathlib.Core.List.{List}
 use native.Mathlib.Omega.{arith}
-use borrow.Author.Tests.{eq-eqb, ne_eqb, eqb-true, eqb-false, lt-leb, leb-false, lt-ltb, not-true}
-use lib.Dec.{eqb, leb, ltb}
-use lib.ListN.{length}
+use borrow.Author.Tests.{eqb-true}
+use lib.Dec.{eqb}
 use Rattle.rules.specs.declared.Bands.{Bands}
-use Rattle.rules.specs.Word.{word, kind_of, payload_of, field_of, bit_of, faulty_amount, faulty_days, minus_zero}
 use Rattle.rules.specs.Book.{trade}
-use Rattle.rules.specs.Faults.{cause, trade_bits_fault, trade_fault}
-use Rattle.rules.specs.Read.{lacks, stands}
+use Rattle.rules.specs.Read.{stands}
 use Rattle.rules.proofs.Lists.{and_left, and_right}
-use Rattle.words.proofs.Both.{as_both}
 use Rattle.records.specs.Readable.{Readable}
-use Rattle.records.proofs.Words.{lacking_short}
 use Rattle.weighing.specs.declared.read.TradeWords.{TradeWords}
 use Rattle.weighing.specs.declared.tally.Tally.{Tally}
 use Rattle.derivatives.specs.declared.covers.OpenCredit.{OpenCredit}
 use Rattle.derivatives.specs.declared.trades.TradeRun.{TradeRun}
 use Rattle.derivatives.specs.declared.members.MemberStep.TheVariants.{Next, Refused}
-use Rattle.weighing.specs.Words.{trade_words, trade_of, trade_fault_of, trade_cause, resets_odd, good_trade, sound_trade}
+use Rattle.weighing.specs.Words.{trade_words, trade_of, trade_cause, sound_trade}
 use Rattle.weighing.specs.Gathered.{plus_member}
-use Rattle.derivatives.specs.Ahead.{no_credit, from_member, set_ahead, SoundSet, Standing, MemberRead, TradesRead}
+use Rattle.derivatives.specs.Ahead.{no_credit, from_member, set_ahead, Standing, MemberRead, TradesRead}
 use Rattle.derivatives.proofs.Turns.{trade_faulty, trade_readable, trade_good}
 
 -- ---- the loop over a run: what lies ahead stays the same at every turn

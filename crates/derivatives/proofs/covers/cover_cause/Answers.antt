@@ -1,5 +1,4 @@
-use Rattle.records.proofs.Words.{whole, cause_lacking, cause_there}
-use borrow.Author.Rules.{rules}
+use Rattle.records.proofs.Words.{whole}
 use Rattle.derivatives.proofs.covers.cover_cause.Goals as goal
 
 pub cover_words-requires : goal.cover_words-requires

@@ -1,5 +1,4 @@
 use Rattle.rules.specs.Read.{written_at, cover_at}
-use borrow.Author.Rules.{rules}
 use Rattle.derivatives.proofs.covers.draw_here.Goals as goal
 
 pub returns : goal.returns

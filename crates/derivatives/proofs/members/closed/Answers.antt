@@ -1,4 +1,4 @@
-use Rattle.derivatives.proofs.Covering.{open_readable, open_close, closed_open, closed_none}
+use Rattle.derivatives.proofs.Covering.{closed_open, closed_none}
 use Rattle.derivatives.proofs.members.closed.Goals as goal
 
 pub returns-then-c : goal.returns-then-c

@@ -1,6 +1,5 @@
 use mathlib.Core.Path.{◌∙◌}
 use Rattle.derivatives.proofs.Covering.{due, not_due, some_open, closes}
-use borrow.Author.Rules.{rules}
 use Rattle.derivatives.proofs.members.member.Goals as goal
 
 pub returns-then-cover_due : goal.returns-then-cover_due

@@ -1,6 +1,4 @@
-use Rattle.derivatives.proofs.Turns.{head_there}
 use Rattle.derivatives.proofs.TradeRuns.{run_refused, run_moved}
-use borrow.Author.Rules.{rules}
 use Rattle.derivatives.proofs.members.trade.Goals as goal
 
 pub returns-then-next-at : goal.returns-then-next-at

@@ -1,7 +1,4 @@
-use Rattle.derivatives.proofs.Weighing.{Weighing, weighing_start, weighing_cover, weighing_refused, weighing_standing, weighing_next, weighing_onward, weighing_whole, weighing_faulty}
-use borrow.Author.Rules.{rules}
-use Prim.Native.Nat.{◌-◌}
-use lib.ListN.{length}
+use Rattle.derivatives.proofs.Weighing.{weighing_next, weighing_onward, weighing_whole, weighing_faulty}
 use Rattle.derivatives.proofs.set.weigh.Goals as goal
 
 pub loop-draw-smaller : goal.loop-draw-smaller

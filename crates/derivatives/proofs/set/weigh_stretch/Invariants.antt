@@ -1,5 +1,4 @@
-use Rattle.derivatives.proofs.Stretching.{Stretching, stretching_start, stretching_next, stretching_onward, stretching_cover, stretching_over, stretching_refused}
-use borrow.Author.Rules.{rules}
+use Rattle.derivatives.proofs.Stretching.{Stretching}
 use Prim.Native.Nat.{◌-◌}
 use lib.ListN.{length}
 use Rattle.derivatives.proofs.set.weigh_stretch.Given as goal

@@ -1,10 +1,6 @@
 -- The loop over trades, as the laws of a run say. Assumes nothing.
-use Prim.Native.Nat.{◌-◌, ◌+◌}
-use native.Mathlib.Omega.{arith}
-use borrow.Author.Rules.{rules}
-use lib.ListN.{length}
-use Rattle.derivatives.proofs.Turns.{tally_roomy}
-use Rattle.derivatives.proofs.TradeRuns.{Passing, passing_begins, words_there, passing_next, passing_ends}
+use Prim.Native.Nat.{◌+◌}
+use Rattle.derivatives.proofs.TradeRuns.{Passing, words_there, passing_next}
 use Rattle.derivatives.proofs.trades.trades.Goals as goal
 
 pub trade_words-requires : goal.trade_words-requires

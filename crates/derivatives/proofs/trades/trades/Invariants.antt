@@ -1,9 +1,6 @@
-use Prim.Native.Nat.{◌-◌, ◌+◌}
-use native.Mathlib.Omega.{arith}
-use borrow.Author.Rules.{rules}
+use Prim.Native.Nat.{◌-◌}
 use lib.ListN.{length}
-use Rattle.derivatives.proofs.Turns.{tally_roomy}
-use Rattle.derivatives.proofs.TradeRuns.{Passing, passing_begins, words_there, passing_next, passing_ends}
+use Rattle.derivatives.proofs.TradeRuns.{Passing}
 use Rattle.derivatives.proofs.trades.trades.Given as goal
 
 abbrev pub invariant-loop-bands : goal.invariant-loop-bands
