@@ -6,7 +6,6 @@ use Rattle.rules.specs.Word.{bit_of}
 use Rattle.rules.specs.Book.{FinancingTrade}
 use Rattle.rules.specs.Run.{Run, run_from}
 use Rattle.rules.specs.Read.{financing_member_turn}
-use Rattle.records.specs.declared.ItemStep.TheVariants as item
 use Rattle.financing.specs.declared.tally.FinancingTally.{FinancingTally}
 use Rattle.financing.specs.declared.trades.Weighed.{Weighed}
 use Rattle.financing.specs.declared.trades.Weighed.TheVariants.{Whole, Refused}

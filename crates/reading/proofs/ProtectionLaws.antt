@@ -1,7 +1,6 @@
 -- What stands where a protection is due, and the loop over the protections. Assumes nothing.
 use Prim.Native.Nat.{ℕ, zero, suc, ◌+◌, ◌-◌, ◌≤◌, ◌<◌}
 use mathlib.Core.Path.{◌≡◌, refl, sym, ◌∙◌, ap}
-use mathlib.Core.Bool.{Bool, true, false}
 use mathlib.Core.List.{List}
 use native.Mathlib.Omega.{arith}
 use native.Mathlib.Numerals.{sub-one}
@@ -10,11 +9,10 @@ use lib.ListN.{length}
 use Rattle.rules.specs.Word.{word, kind_of}
 use Rattle.rules.specs.Book.{Protection}
 use Rattle.rules.specs.Faults.{protection_fault}
-use Rattle.rules.specs.Run.{Turn, over, some, Run, then_run, run_from}
+use Rattle.rules.specs.Run.{Turn, some, Run, then_run, run_from}
 use Rattle.rules.specs.Read.{record_then, protection_at, protection_turn}
 use Rattle.rules.proofs.Runs.{FineTurn}
 use Rattle.laws.proofs.Protections.{Filled, protection_filled}
-use Rattle.laws.proofs.Protections
 use Rattle.laws.proofs.MemberBounds.{per_word}
 use Rattle.laws.proofs.ItemBounds.{nothing, fine_protection}
 use Rattle.laws.proofs.Records.{amounts_at_lem}

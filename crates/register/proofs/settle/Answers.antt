@@ -1,6 +1,6 @@
 -- Each turn by the laws of Turns. Assumes nothing.
 use Rattle.std.proofs.lemmas.Bool.{not-false, not-true}
-use Rattle.register.proofs.Turns.{turning_starts, turn_less, turn_ends, turn_refuses, turn_goes_on}
+use Rattle.register.proofs.Turns.{turning_starts, turn_ends, turn_refuses, turn_goes_on}
 use Rattle.register.proofs.settle.Goals as goal
 
 pub loop-found-init : goal.loop-found-init

@@ -1,5 +1,4 @@
 -- The two tests of cause 7. Assumes nothing.
-use borrow.Author.Rules.{rules}
 use Rattle.rules.specs.Faults.{financing_set_fault}
 use Rattle.financing.proofs.faults.financing_set_fault.Goals as goal
 

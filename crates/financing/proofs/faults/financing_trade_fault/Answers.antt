@@ -1,5 +1,4 @@
 -- The causes of the definition, in its order. Assumes nothing.
-use borrow.Author.Rules.{rules}
 use Rattle.rules.specs.Faults.{financing_trade_fault}
 use Rattle.financing.proofs.faults.financing_trade_fault.Goals as goal
 

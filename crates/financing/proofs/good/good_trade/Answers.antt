@@ -1,7 +1,6 @@
 -- Words that are not all there make no trade; the others are tested. Assumes nothing.
-use mathlib.Core.Path.{◌∙◌, ap, ap₂}
+use mathlib.Core.Path.{◌∙◌, ap₂}
 use native.Mathlib.Omega.{arith}
-use borrow.Author.Rules.{rules}
 use Rattle.financing.specs.Good.{good_trade}
 use Rattle.financing.proofs.Sound.{no_trade, trade_is}
 use Rattle.financing.proofs.good.good_trade.Goals as goal

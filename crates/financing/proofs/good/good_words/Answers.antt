@@ -1,5 +1,4 @@
 -- The tests one after the other: the first that fails ends them. Assumes nothing.
-use borrow.Author.Rules.{rules}
 use Rattle.financing.proofs.Sound.{no_head, no_days, no_own, by_values}
 use Rattle.financing.proofs.good.good_words.Goals as goal
 

@@ -1,5 +1,4 @@
 -- Each row by its mark. Assumes nothing.
-use borrow.Author.Rules.{rules}
 use Rattle.financing.specs.Weighing.{set_sums}
 use Rattle.financing.proofs.tally.set_sums.Goals as goal
 

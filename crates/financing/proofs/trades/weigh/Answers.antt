@@ -1,18 +1,10 @@
 -- The loop holds a tally at a place (TradeLoop); each way out of it is a law there. Assumes nothing.
-use Prim.Native.Nat.{◌-◌}
-use mathlib.Core.Path.{◌≡◌, ◌∙◌, ap}
-use native.Mathlib.Omega.{arith}
-use lib.ListN.{length}
-use borrow.Author.Rules.{rules}
-use Rattle.financing.specs.Good.{own_most}
-use Rattle.financing.proofs.Sound.{most_is}
-use Rattle.financing.proofs.TradeLoop.{AtTrade, at_first, tally_roomy, trades_over, trade_there, trade_stop, trade_room, trade_plain, trade_less, trade_next_lem}
+use Rattle.financing.proofs.TradeLoop.{tally_roomy, trades_over, trade_stop, trade_room, trade_plain, trade_next_lem}
 use Rattle.financing.proofs.trades.weigh.Goals as goal
 
 pub add-t-requires : goal.add-t-requires
 add-t-requires c =
-    let inv = c.loop-t.invariant in
-    (
+    let inv = c.loop-t.invariant in (
       tally_roomy _ _ _ inv c.requires.0.short,
       trade_plain _ _ _ inv _ c.good_trade.ensures c.loop-t-test.true _ c.financing_trade_words.ensures,
     )

@@ -1,7 +1,5 @@
-use mathlib.Core.Path.{refl}
-use borrow.Author.Rules.{rules}
 use Rattle.reading.specs.Ahead.{left}
-use Rattle.reading.proofs.CursorLaws.{Reached, goes_on, found_cover, found_end}
+use Rattle.reading.proofs.CursorLaws.{Reached}
 use Rattle.reading.proofs.cursor.next_draw.Given as goal
 
 abbrev pub invariant-loop-next : goal.invariant-loop-next

@@ -1,6 +1,5 @@
 use Rattle.rules.specs.Read.{end_fault}
 use native.Mathlib.Numerals.{add-one}
-use borrow.Author.Rules.{rules}
 use Rattle.reading.proofs.items.end_fault.Goals as goal
 
 pub returns : goal.returns

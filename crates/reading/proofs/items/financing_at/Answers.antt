@@ -2,8 +2,7 @@
 use native.Mathlib.Omega.{arith}
 use Rattle.rules.specs.Read.{head_of, financing_set_turn}
 use Rattle.reading.proofs.AheadLaws.{sums_roomy, more_roomy}
-use Rattle.reading.proofs.ItemLaws.{met, part_of, kind_here, its_kind, of_kind_8, plain_financing, item_next, item_refused}
-use borrow.Author.Rules.{rules}
+use Rattle.reading.proofs.ItemLaws.{met, kind_here, of_kind_8, plain_financing, item_next, item_refused}
 use Rattle.reading.proofs.items.financing_at.Goals as goal
 
 pub plus-requires : goal.plus-requires

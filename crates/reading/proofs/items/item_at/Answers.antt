@@ -1,13 +1,8 @@
-use Prim.Native.Nat.{ℕ}
-use mathlib.Core.Path.{◌≡◌}
-use mathlib.Core.Bool.{true}
 use native.Mathlib.Omega.{arith}
-use Rattle.rules.specs.Read.{stands}
 use Rattle.laws.proofs.Records.{stands_there}
 use Rattle.reading.proofs.ItemLaws.{met}
 use Rattle.reading.proofs.HeadLaws.{beyond, no_item}
 use Rattle.reading.proofs.AnswerLaws.{set_answers, end_answers}
-use borrow.Author.Rules.{rules}
 use Rattle.reading.proofs.items.item_at.Goals as goal
 
 pub returns-then-book-at : goal.returns-then-book-at

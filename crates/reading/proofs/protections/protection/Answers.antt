@@ -1,6 +1,5 @@
 use native.Mathlib.Omega.{arith}
 use Rattle.reading.proofs.ProtectionLaws.{due_beyond, due_other, due_fault, due_good}
-use borrow.Author.Rules.{rules}
 use Rattle.reading.proofs.protections.protection.Goals as goal
 
 pub returns-then-book-at : goal.returns-then-book-at

@@ -1,11 +1,5 @@
-use Prim.Native.Nat.{◌≤◌}
-use mathlib.Core.Path.{◌≡◌, refl, sym, ◌∙◌}
+use mathlib.Core.Path.{sym, ◌∙◌}
 use native.Mathlib.Omega.{arith}
-use lib.ListN.{length}
-use borrow.Author.Rules.{rules}
-use Rattle.rules.specs.Run.{run_from}
-use Rattle.rules.specs.Read.{first_record, protection_turn}
-use Rattle.reading.specs.Steps.{place_of}
 use Rattle.reading.proofs.ProtectionLaws.{goes_on, stops_at, ends_here}
 use Rattle.reading.proofs.protections.read_protections.Goals as goal
 

@@ -1,12 +1,9 @@
 use Prim.Native.Nat.{◌≤◌}
-use mathlib.Core.Path.{◌≡◌, refl, sym, ◌∙◌}
-use native.Mathlib.Omega.{arith}
+use mathlib.Core.Path.{◌≡◌}
 use lib.ListN.{length}
-use borrow.Author.Rules.{rules}
 use Rattle.rules.specs.Run.{run_from}
 use Rattle.rules.specs.Read.{first_record, protection_turn}
 use Rattle.reading.specs.Steps.{place_of}
-use Rattle.reading.proofs.ProtectionLaws.{goes_on, stops_at, ends_here}
 use Rattle.reading.proofs.protections.read_protections.Given as goal
 
 abbrev pub invariant-loop-left : goal.invariant-loop-left

@@ -1,16 +1,13 @@
 -- The loop over assets, as the laws of a run say. Assumes nothing.
-use Prim.Native.Nat.{◌-◌, ◌+◌}
-use mathlib.Core.Path.{refl, sym, ◌∙◌, ap}
+use Prim.Native.Nat.{◌+◌}
+use mathlib.Core.Path.{refl, sym, ◌∙◌}
 use native.Mathlib.Omega.{arith}
-use borrow.Author.Rules.{rules}
-use lib.ListN.{length}
 use Rattle.records.specs.Sums.{plus}
 use Rattle.records.specs.Step.{asset_sums}
 use Rattle.records.proofs.SumLaws.{plus_none}
 use Rattle.reading.proofs.AheadLaws.{sums_roomy, more_roomy}
-use Rattle.reading.proofs.ItemLaws.{met, part_of}
 use Rattle.reading.proofs.RunLaws.{Running, run_begins}
-use Rattle.reading.proofs.ItemRuns.{run_ends, assets_refused, asset_there, asset_within, asset_next}
+use Rattle.reading.proofs.ItemRuns.{assets_refused, asset_there, asset_within, asset_next}
 use Rattle.reading.proofs.runs.assets.Goals as goal
 
 pub loop-a-init : goal.loop-a-init
@@ -30,9 +27,12 @@ overflow_add-carried c =
 
 pub overflow_add-deducted : goal.overflow_add-deducted
 overflow_add-deducted c =
-    omega (arith, (sums_roomy (let its_next : Running c.args.book.now c.args.s c.args.from (plus c.args.s (asset_sums (c.loop-a.carried + c.carried_by-carried.result) (c.loop-a.deducted + c.deducted_by-deducted.result))) (c.loop-a.at + 4) = let l = c.loop-a in
-    let words = c.asset_words-a.ensures in
-    asset_next c.args.s l.carried l.deducted l.invariant c.good_asset.ensures c.loop-a-test.true (rw words at c.carried_by-carried.ensures) (rw words at c.deducted_by-deducted.ensures) in its_next).sums_up_to).deducted)
+    omega (
+      arith,
+      (sums_roomy (let its_next : Running c.args.book.now c.args.s c.args.from (plus c.args.s (asset_sums (c.loop-a.carried + c.carried_by-carried.result) (c.loop-a.deducted + c.deducted_by-deducted.result))) (c.loop-a.at + 4) = let l = c.loop-a in
+          let words = c.asset_words-a.ensures in
+          asset_next c.args.s l.carried l.deducted l.invariant c.good_asset.ensures c.loop-a-test.true (rw words at c.carried_by-carried.ensures) (rw words at c.deducted_by-deducted.ensures) in its_next).sums_up_to).deducted,
+    )
 
 pub loop-a-preserved : goal.loop-a-preserved
 loop-a-preserved c =

@@ -1,17 +1,14 @@
 -- The loop over off-balance items, as the laws of a run say. Assumes nothing.
-use Prim.Native.Nat.{◌-◌, ◌+◌}
-use mathlib.Core.Path.{sym, ◌∙◌, ap}
+use Prim.Native.Nat.{◌+◌}
+use mathlib.Core.Path.{sym, ◌∙◌}
 use native.Mathlib.Omega.{arith}
-use borrow.Author.Rules.{rules}
-use lib.ListN.{length}
 use Rattle.rules.specs.Read.{off_balance_at}
 use Rattle.records.specs.Sums.{plus}
 use Rattle.records.specs.Step.{off_balance_sums}
 use Rattle.records.proofs.SumLaws.{plus_none}
 use Rattle.reading.proofs.AheadLaws.{sums_roomy, more_roomy}
-use Rattle.reading.proofs.ItemLaws.{met, part_of}
 use Rattle.reading.proofs.RunLaws.{Running, run_begins}
-use Rattle.reading.proofs.ItemRuns.{run_ends, off_balance_refused, off_balance_there, off_balance_next}
+use Rattle.reading.proofs.ItemRuns.{off_balance_refused, off_balance_there, off_balance_next}
 use Rattle.reading.proofs.runs.off_balance_items.Goals as goal
 
 pub loop-figures-init : goal.loop-figures-init
@@ -26,10 +23,13 @@ overflow_add-notionals c = omega (arith, (sums_roomy c.loop-figures.invariant.su
 pub overflow_add-unconverted : goal.overflow_add-unconverted
 unfolding off_balance_at
 overflow_add-unconverted c =
-    omega (arith, (sums_roomy (let its_next : Running c.args.book.now c.args.s c.args.from (plus c.args.s (off_balance_sums (c.loop-figures.notionals + c.wide-notionals.result) (c.loop-figures.unconverted + c.unconverted_by-unconverted.result))) (c.loop-figures.at + 2) = let l = c.loop-figures in
-    let words = c.off_balance_words-o.ensures in
-    off_balance_next c.args.s l.notionals l.unconverted l.invariant c.good_off_balance.ensures c.loop-figures-test.true
-    (c.wide-notionals.ensures ∙ rw words at c.size.ensures) (rw words at c.unconverted_by-unconverted.ensures) in its_next).sums_up_to).unconverted)
+    omega (
+      arith,
+      (sums_roomy (let its_next : Running c.args.book.now c.args.s c.args.from (plus c.args.s (off_balance_sums (c.loop-figures.notionals + c.wide-notionals.result) (c.loop-figures.unconverted + c.unconverted_by-unconverted.result))) (c.loop-figures.at + 2) = let l = c.loop-figures in
+          let words = c.off_balance_words-o.ensures in
+          off_balance_next c.args.s l.notionals l.unconverted l.invariant c.good_off_balance.ensures c.loop-figures-test.true
+          (c.wide-notionals.ensures ∙ rw words at c.size.ensures) (rw words at c.unconverted_by-unconverted.ensures) in its_next).sums_up_to).unconverted,
+    )
 
 pub loop-figures-preserved : goal.loop-figures-preserved
 unfolding off_balance_at

@@ -1,5 +1,4 @@
 use Rattle.reading.proofs.CursorLaws.{step_more, step_set, step_end, step_refused}
-use borrow.Author.Rules.{rules}
 use Rattle.reading.proofs.steps.item_step.Goals as goal
 
 pub returns-in-More : goal.returns-in-More

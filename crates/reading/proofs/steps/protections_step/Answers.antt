@@ -1,5 +1,4 @@
 use Rattle.reading.proofs.CursorLaws.{step_faulty, step_upto}
-use borrow.Author.Rules.{rules}
 use Rattle.reading.proofs.steps.protections_step.Goals as goal
 
 pub returns-in-Refused : goal.returns-in-Refused

@@ -1,6 +1,4 @@
-use native.Mathlib.Omega.{arith}
-use Rattle.reading.proofs.SetSteps.{sound_part, step_cover, set_ends, set_readable, tally_small, plus_roomy, step_whole, fault_there, step_refused}
-use borrow.Author.Rules.{rules}
+use Rattle.reading.proofs.SetSteps.{step_cover, plus_roomy, step_whole, step_refused}
 use Rattle.reading.proofs.steps.set_step.Goals as goal
 
 pub plus-requires : goal.plus-requires

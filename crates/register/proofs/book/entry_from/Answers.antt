@@ -1,6 +1,5 @@
 -- `entry_from` reads the four words of a protection. Assumes nothing.
 use Rattle.rules.specs.Read.{protection_at}
-use borrow.Author.Rules.{rules}
 use Rattle.register.proofs.book.entry_from.Goals as goal
 
 pub returns : goal.returns

@@ -2,6 +2,7 @@
 use Prim.Native.Nat.{ℕ, ◌≤◌, ◌<◌}
 use mathlib.Core.Path.{◌≡◌, refl}
 use mathlib.Core.List.{List}
+use native.Mathlib.Omega.{arith}
 use lib.ListN.{set, get_or}
 use borrow.Author.Tests.{le-leb, lt-leb}
 use Rattle.rules.specs.declared.Draw.{Draw}
@@ -21,7 +22,7 @@ unfolding fault_in drawn_in cause
 inside b ys d e number h f g = rw (lt-leb b d.protection h, f, g) (refl, refl)
 
 pub returns-then-b-i : goal.returns-then-b-i
-returns-then-b-i c = beyond c.args.b c.args.register.now c.args.d c.if-b-i.true
+returns-then-b-i c = beyond c.args.b c.args.register.now c.args.d (omega arith)
 
 pub returns : goal.returns
-returns c = inside c.args.b c.args.register.now c.args.d c.drawn_down-after.result.entry c.drawn_down-after.result.number c.if-b-i.false c.drawn_down-after.ensures.0 c.drawn_down-after.ensures.1
+returns c = inside c.args.b c.args.register.now c.args.d c.drawn_down-after.result.entry c.drawn_down-after.result.number (omega arith) c.drawn_down-after.ensures.0 c.drawn_down-after.ensures.1

@@ -1,6 +1,5 @@
 -- `drawn_down` leaves an entry that the draw does not fit, and lowers any other. Assumes nothing.
 use mathlib.Core.Path.{sym, ◌∙◌}
-use borrow.Author.Rules.{rules}
 use borrow.Author.Tests.{eq-eqb, ne_eqb}
 use Rattle.register.specs.Draws.{drawn_down}
 use Rattle.register.proofs.entries.drawn_down.Goals as goal

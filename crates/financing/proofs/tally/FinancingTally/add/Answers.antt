@@ -1,5 +1,4 @@
 -- Each amount is its word. Assumes nothing.
-use borrow.Author.Rules.{rules}
 use Rattle.financing.specs.Weighing.{tallied}
 use Rattle.financing.proofs.Sound.{plain_read}
 use Rattle.financing.proofs.tally.FinancingTally.add.Goals as goal

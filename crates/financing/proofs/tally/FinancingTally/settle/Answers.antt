@@ -1,5 +1,4 @@
 -- The cash of the day and of the days before. Assumes nothing.
-use borrow.Author.Rules.{rules}
 use Rattle.financing.specs.Weighing.{settled}
 use Rattle.financing.proofs.Sound.{plain_read}
 use Rattle.financing.proofs.tally.FinancingTally.settle.Goals as goal
