@@ -1,11 +1,11 @@
 -- The stages one after the other, by the laws of StageLaws. Assumes nothing.
-use mathlib.Core.Path.{◌≡◌, sym, ◌∙◌, ap}
+use mathlib.Core.Path.{sym, ◌∙◌, ap}
 use native.Mathlib.Omega.{arith}
 use lib.ListN.{length}
 use Rattle.rules.specs.Read.{head_of}
-use Rattle.rules.specs.Filing.{Outcome, admission, register_after}
+use Rattle.rules.specs.Filing.{Outcome, register_after}
 use Rattle.filing.specs.Answers.{admission_of}
-use Rattle.filing.proofs.StageLaws.{refused_early, Looked, looked_at_lem, admitted, register_left, register_cleared}
+use Rattle.filing.proofs.StageLaws.{refused_early, looked_at_lem, admitted, register_left, register_cleared}
 use Rattle.filing.proofs.admit.admit.Goals as goal
 
 pub returns-then-number-ne-NONE : goal.returns-then-number-ne-NONE
