@@ -1,9 +1,8 @@
 use mathlib.Core.Path.{◌∙◌, ap}
 use Prim.Native.Nat.{ℕ}
-use borrow.Author.Rules.{rules}
 use Rattle.cuts.proofs.ByKind.{is_set}
 use Rattle.sets.specs.Search.{place_from}
-use Rattle.sets.proofs.FoundLaws.{found_there, found_none}
+use Rattle.sets.proofs.FoundLaws.{found_there}
 use Rattle.sets.proofs.bounds.find_set.Goals as goal
 
 pub returns-then-begin-book : goal.returns-then-begin-book

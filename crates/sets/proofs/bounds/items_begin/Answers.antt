@@ -1,4 +1,3 @@
-use borrow.Author.Rules.{rules}
 use native.Mathlib.Omega.{arith}
 use Rattle.sets.proofs.SearchLaws.{few_protections}
 use Rattle.sets.proofs.bounds.items_begin.Goals as goal

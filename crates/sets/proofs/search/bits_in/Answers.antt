@@ -1,8 +1,4 @@
-use mathlib.Core.Path.{◌≡◌, refl, sym, ◌∙◌}
-use Prim.Native.Nat.{◌-◌}
-use native.Mathlib.Omega.{arith}
-use borrow.Author.Rules.{rules}
-use Rattle.sets.specs.Search.{bits_from}
+use mathlib.Core.Path.{sym, ◌∙◌}
 use Rattle.sets.proofs.SearchLaws.{bits_word, bits_none}
 use Rattle.sets.proofs.search.bits_in.Goals as goal
 

@@ -1,9 +1,6 @@
-use mathlib.Core.Path.{◌≡◌, refl, sym, ◌∙◌}
+use mathlib.Core.Path.{◌≡◌}
 use Prim.Native.Nat.{◌-◌}
-use native.Mathlib.Omega.{arith}
-use borrow.Author.Rules.{rules}
 use Rattle.sets.specs.Search.{bits_from}
-use Rattle.sets.proofs.SearchLaws.{bits_word, bits_none}
 use Rattle.sets.proofs.search.bits_in.Given as goal
 
 abbrev pub invariant-loop-at : goal.invariant-loop-at

@@ -1,9 +1,5 @@
-use mathlib.Core.Path.{◌≡◌}
-use Prim.Native.Nat.{◌+◌, ◌-◌}
+use Prim.Native.Nat.{◌-◌}
 use native.Mathlib.Omega.{arith}
-use lib.ListN.{length}
-use borrow.Author.Rules.{rules}
-use Rattle.cuts.proofs.Scan.{scan}
 use Rattle.sets.specs.Search.{passes}
 use Rattle.sets.proofs.SearchLaws.{scan_few, scan_none, count_next}
 use Rattle.sets.proofs.search.count_in.Goals as goal

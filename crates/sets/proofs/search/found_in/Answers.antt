@@ -1,6 +1,5 @@
-use borrow.Author.Rules.{rules}
 use mathlib.Core.Path.{sym, ◌∙◌}
-use Rattle.sets.proofs.SearchLaws.{block_count, quiet_block}
+use Rattle.sets.proofs.SearchLaws.{quiet_block}
 use Rattle.sets.proofs.search.found_in.Goals as goal
 
 pub returns-then-quiet_in-2 : goal.returns-then-quiet_in-2

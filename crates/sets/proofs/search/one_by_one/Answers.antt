@@ -1,9 +1,5 @@
-use mathlib.Core.Path.{◌≡◌, refl, sym, ◌∙◌}
-use Prim.Native.Nat.{◌-◌}
-use native.Mathlib.Omega.{arith}
-use lib.ListN.{length}
-use borrow.Author.Rules.{rules}
-use Rattle.sets.specs.Search.{passes, place_from}
+use mathlib.Core.Path.{sym, ◌∙◌}
+use Rattle.sets.specs.Search.{passes}
 use Rattle.sets.proofs.SearchLaws.{place_over, place_next, place_found}
 use Rattle.sets.proofs.search.one_by_one.Goals as goal
 

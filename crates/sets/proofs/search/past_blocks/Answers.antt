@@ -1,9 +1,6 @@
-use mathlib.Core.Path.{◌≡◌, refl, ◌∙◌}
-use Prim.Native.Nat.{◌-◌}
+use mathlib.Core.Path.{◌∙◌}
 use native.Mathlib.Omega.{arith}
-use lib.ListN.{length}
-use borrow.Author.Rules.{rules}
-use Rattle.sets.specs.Search.{passes, place_from}
+use Rattle.sets.specs.Search.{passes}
 use Rattle.sets.proofs.SearchLaws.{place_behind}
 use Rattle.sets.proofs.search.past_blocks.Goals as goal
 

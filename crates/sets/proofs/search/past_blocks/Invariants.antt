@@ -1,10 +1,7 @@
-use mathlib.Core.Path.{◌≡◌, refl, ◌∙◌}
+use mathlib.Core.Path.{◌≡◌}
 use Prim.Native.Nat.{◌-◌}
-use native.Mathlib.Omega.{arith}
 use lib.ListN.{length}
-use borrow.Author.Rules.{rules}
 use Rattle.sets.specs.Search.{passes, place_from}
-use Rattle.sets.proofs.SearchLaws.{place_behind}
 use Rattle.sets.proofs.search.past_blocks.Given as goal
 
 abbrev pub invariant-loop-at : goal.invariant-loop-at
