@@ -15,7 +15,7 @@ use Rattle.rules.specs.Book.{DerivativeSet, Item, derivatives, Placed, total}
 use Rattle.rules.specs.Read.{head_of}
 use Rattle.rules.specs.Weigh.{sum_below, gain_in, loss_in, add_on_in, uncovered_in, written_in, covers_in, tally_of, replacement_of, weighted_in}
 use Rattle.rules.specs.Rows.{sum_over, exposure_row}
-use Rattle.rules.specs.Filing.{outcome_of, accepted, verdict_in, filing}
+use Rattle.rules.specs.Filing.{outcome_of, verdict_in, filing}
 use Rattle.rules.proofs.Lists.{total_le_all}
 use Rattle.laws.specs.Exposure.{exposure_of}
 use Rattle.laws.proofs.Accepted.{Accepted, accepted_is}

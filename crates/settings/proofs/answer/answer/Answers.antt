@@ -1,6 +1,4 @@
-use mathlib.Core.Path.{sym, ◌∙◌}
-use Rattle.settings.proofs.AnswerLaws.{answered_refused, admitted_as}
-use borrow.Author.Rules.{rules}
+use Rattle.settings.proofs.AnswerLaws.{answered_refused}
 use Rattle.settings.proofs.answer.answer.Goals as goal
 
 pub returns-in-Refused : goal.returns-in-Refused

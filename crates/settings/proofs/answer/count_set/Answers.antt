@@ -1,14 +1,15 @@
+use mathlib.Core.Bool.{not}
+use mathlib.Core.Path.{ap}
 use Rattle.settings.proofs.AnswerLaws.{answered_15, chosen_there, answered_counts}
-use borrow.Author.Rules.{rules}
 use Rattle.settings.proofs.answer.count_set.Goals as goal
 
 pub returns-then-not-standing : goal.returns-then-not-standing
-returns-then-not-standing c register a = answered_15 _ _ _ _ a c.items_begin.ensures c.search-head.ensures c.standing.ensures c.if-not-standing.true-raw c.turned_away.ensures
+returns-then-not-standing c register a = answered_15 _ _ _ _ a c.items_begin.ensures c.search-head.ensures c.standing.ensures (ap not c.if-not-standing.true) c.turned_away.ensures
 
 pub count_settings-requires : goal.count_settings-requires
 count_settings-requires c =
     let b = c.requires in
-    record { register = b.register; chosen = chosen_there _ _ _ _ b.is c.items_begin.ensures c.search-head.ensures c.standing.ensures c.if-not-standing.false-raw }
+    record { register = b.register; chosen = chosen_there _ _ _ _ b.is c.items_begin.ensures c.search-head.ensures c.standing.ensures (ap not c.if-not-standing.false) }
 
 pub returns : goal.returns
-returns c register a = answered_counts _ _ _ _ a c.items_begin.ensures c.search-head.ensures c.standing.ensures c.if-not-standing.false-raw c.count_settings.ensures
+returns c register a = answered_counts _ _ _ _ a c.items_begin.ensures c.search-head.ensures c.standing.ensures (ap not c.if-not-standing.false) c.count_settings.ensures

@@ -1,5 +1,4 @@
 use Rattle.settings.proofs.PieceLaws.{exposed_is}
-use borrow.Author.Rules.{rules}
 use Rattle.settings.proofs.exposure.exposed.Goals as goal
 
 pub returns : goal.returns

@@ -1,7 +1,6 @@
 use mathlib.Core.Path.{◌∙◌}
 use native.Mathlib.Omega.{arith}
 use Rattle.settings.proofs.PieceLaws.{netted_fits, margined_fits, pieces_are}
-use borrow.Author.Rules.{rules}
 use Rattle.settings.proofs.exposure.pieces_of.Goals as goal
 
 pub overflow_add-result-2 : goal.overflow_add-result-2

@@ -1,11 +1,7 @@
 use mathlib.Core.Path.{◌∙◌, ap}
-use Prim.Native.Nat.{◌-◌}
-use native.Mathlib.Omega.{arith}
-use lib.ListN.{length}
 use Rattle.rules.specs.Word.{size_of}
 use Rattle.weighing.specs.declared.read.CoverWords.{CoverWords}
-use borrow.Author.Rules.{rules}
-use Rattle.settings.proofs.Covers.{CoversLeft, covers_begin, cover_there, cover_taken, covers_over}
+use Rattle.settings.proofs.Covers.{cover_there, cover_taken, covers_over}
 use Rattle.settings.proofs.members.covers_from.Goals as goal
 
 pub cover_words-c-requires : goal.cover_words-c-requires

@@ -1,5 +1,4 @@
 use Rattle.settings.proofs.Taken.{trade_there, trade_moves, credit_there, credit_moves, basket_there, basket_moves, none_left}
-use borrow.Author.Rules.{rules}
 use Rattle.settings.proofs.members.next_member.Goals as goal
 
 pub with_trade-requires : goal.with_trade-requires

@@ -1,5 +1,4 @@
-use Rattle.settings.proofs.Gathering.{not_refused, basket_small, basket_is}
-use borrow.Author.Rules.{rules}
+use Rattle.settings.proofs.Gathering.{basket_small}
 use Rattle.settings.proofs.members.with_basket.Goals as goal
 
 pub add_basket-requires : goal.add_basket-requires

@@ -1,6 +1,4 @@
-use native.Mathlib.Omega.{arith}
 use Rattle.settings.proofs.Gathering.{credit_is}
-use borrow.Author.Rules.{rules}
 use Rattle.settings.proofs.members.with_credit.Goals as goal
 
 pub returns : goal.returns

@@ -1,5 +1,4 @@
 use Rattle.settings.proofs.Gathering.{trade_is}
-use borrow.Author.Rules.{rules}
 use Rattle.settings.proofs.members.with_trade.Goals as goal
 
 pub returns : goal.returns

@@ -1,8 +1,6 @@
 use Prim.Native.Nat.{◌-◌}
-use native.Mathlib.Omega.{arith}
-use borrow.Author.Rules.{rules}
 use Rattle.settings.specs.Pieces.{verdict_by}
-use Rattle.settings.proofs.CountLaws.{Counting, counting_begins, few, counting_on, counting_over, verdict_is, sum_fits}
+use Rattle.settings.proofs.CountLaws.{Counting}
 use Rattle.settings.proofs.verdicts.count_each.Given as goal
 
 abbrev pub invariant-loop-m : goal.invariant-loop-m

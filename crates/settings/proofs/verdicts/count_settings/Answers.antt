@@ -1,7 +1,6 @@
 use native.Mathlib.Omega.{arith}
 use Rattle.settings.proofs.SettingLaws.{head_within, set_readable, date_within, members_sure, tally_fit, pieces_known_fit, filed_within, each_fits, settings_counted}
 use Rattle.settings.proofs.AnswerLaws.{chosen_fits}
-use borrow.Author.Rules.{rules}
 use Rattle.settings.proofs.verdicts.count_settings.Goals as goal
 
 pub offset_bounds-book-head : goal.offset_bounds-book-head
