@@ -12,7 +12,7 @@ use rules::limits;
 use sample::file_next;
 use std::fs::File;
 use std::io;
-use std::io::{BufWriter, Read, Write};
+use std::io::{Read, Write};
 
 // Files book after book; how many there were.
 fn file_each<R: Read, W: Write>(
@@ -41,17 +41,12 @@ fn file_all<R: Read, W: Write>(input: &mut R, out: &mut W) -> io::Result<u64> {
 
 fn print_all<R: Read, W: Write>(input: &mut R, out: &mut W) -> io::Result<()> {
     let count = file_all(input, out)?;
-    lines::print_count(out, count)?;
-    out.flush()
+    lines::print_count(out, count)
 }
 
 fn main(rt: HostRuntime) -> io::Result<()> {
     match File::open(&rt, "books") {
-        Ok(mut books) => {
-            // some hundred thousand numbers are written, so not each by itself
-            let mut out = BufWriter::new(rt.alloc(), io::writer(&rt))?;
-            print_all(&mut books, &mut out)
-        }
+        Ok(mut books) => print_all(&mut books, &mut io::writer(&rt)),
         Err(e) => eprintln!(rt; "books: {e}"),
     }
 }
