@@ -143,25 +143,14 @@ def main(argv):
     print(f"{len(to)} names")
     if "--dry" in argv:
         return 0
-    for p in files(root, ".antt"):
-        text = read(p)
-        new = turn_antt(text, to)
-        if new != text:
-            with open(p, "w", encoding="utf-8") as f:
-                f.write(new)
-    for p in files(root, ".rt"):
-        text = read(p)
-        new = turn_rt(text, to)
-        if new != text:
-            with open(p, "w", encoding="utf-8") as f:
-                f.write(new)
     pages = [os.path.join(root, "README.md")] + [os.path.join(d, n) for d, _, ns in os.walk(os.path.join(root, "docs")) for n in ns if n.endswith(".md")]
-    for p in pages:
-        text = read(p)
-        new = turn_page(text, to)
-        if new != text:
-            with open(p, "w", encoding="utf-8") as f:
-                f.write(new)
+    for paths, turned in ((files(root, ".antt"), turn_antt), (files(root, ".rt"), turn_rt), (pages, turn_page)):
+        for p in paths:
+            text = read(p)
+            new = turned(text, to)
+            if new != text:
+                with open(p, "w", encoding="utf-8") as f:
+                    f.write(new)
     return 0
 
 

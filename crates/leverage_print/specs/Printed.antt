@@ -1,12 +1,9 @@
--- What the program prints (document 01, "The printing program").
-use Rattle.std.specs.Prelude.{codes, ◌≡◌, ℕ, zero, suc, ◌+◌, ◌*◌, ◌%◌, ◌<◌, ◌≤◌, ◌≢◌, List, [], ◌++◌, length, replicate, Option, ℤ, pos, slice_index, slice_index_or}
+-- What the program prints (document 01, "The printing program"). Assumes nothing.
+use Rattle.std.specs.Prelude.{codes, ℕ, zero, suc, ◌+◌, ◌*◌, ◌/◌, ◌%◌, cond, eqb, ltb, List, [], ◌∷◌, ◌++◌, length, replicate, ℤ, pos, slice_index_or}
 use Rattle.std.specs.Fmt.{decimal, signed_decimal}
-use Rattle.std.specs.Io.KnownBytes.{Appends}
 use Rattle.rules.specs.Register.{blank}
-use Rattle.filing.specs.declared.Answer.{Answer}
-use Rattle.filing.specs.declared.Answer.TheVariants.{Refused, Accepted}
 use Rattle.rules.specs.Filing.{filing}
-use Rattle.filing.specs.Answers.{filed, seen}
+use Rattle.filing.specs.Answers.{Seen, seen}
 use Rattle.streams.specs.Words.{word_at}
 
 -- "row number, space, value", the rows counted from 1
@@ -24,30 +21,28 @@ refused_line number place = codes "refused " ++ decimal number ++ codes " at " +
 abbrev pub verdict_line : ℕ → List ℕ
 verdict_line verdict = codes "verdict " ++ decimal verdict ++ codes "\n"
 
-abbrev pub answer_text : Answer → List ℤ → List ℕ
-answer_text (Refused number place) rows = refused_line number place
-answer_text (Accepted verdict) rows = row_lines rows 22 ++ verdict_line verdict
+-- ---- a filing: "3 on refusal", so that its number tells
 
--- the words of the bytes, four to a word
-pub record IsBookOf (bytes book : List ℕ) : Type 0 where
-  pub all : 4 * length book ≡ length bytes
-  pub words : (k : ℕ) → k < length book → slice_index book k ≡ word_at bytes k
+abbrev pub text_of : Seen → List ℕ
+text_of s = cond (eqb s.number 0) (row_lines s.rows 22 ++ verdict_line s.verdict) (refused_line s.number s.place)
 
--- the text is that of an answer which is the filing's, on the bytes' words and rows of 0
-pub record ShowsFiling (bytes text : List ℕ) : Type 0 where
-  pub book : List ℕ
-  pub is_book : IsBookOf bytes book
-  pub answer : Answer
-  pub rows : List ℤ
-  pub is_filed : seen (filed answer rows (replicate 1024 blank)) ≡ seen (filing book (replicate 22 (pos 0)) (replicate 1024 blank))
-  pub is_shown : text ≡ answer_text answer rows
+-- ---- the input
+
+-- the first n words of the bytes, four to a word
+abbrev pub words_of : List ℕ → ℕ → List ℕ
+words_of bytes zero = []
+words_of bytes (suc n) = words_of bytes n ++ word_at bytes n ∷ []
+
+-- what is printed of a book of so many bytes: its filing, with rows of 0 and "1,024 register entries of its own"
+unfoldable pub book_text : List ℕ → List ℕ
+book_text bytes = text_of (seen (filing (words_of bytes (length bytes / 4)) (replicate 22 (pos 0)) (replicate 1024 blank)))
+
+-- "holds 16,384 words"
+abbrev pub own_bytes : ℕ
+own_bytes = 4 * 16384
 
 -- what is printed for so many bytes on the standard input
-pub record IsPrinted (bytes text : List ℕ) : Type 0 where
-  pub long : 65536 < length bytes → text ≡ codes "input 2\n"
-  pub uneven : length bytes ≤ 65536 → length bytes % 4 ≢ 0 → text ≡ codes "input 1\n"
-  pub book : length bytes ≤ 65536 → length bytes % 4 ≡ 0 → ShowsFiling bytes text
-
--- what was written is a text that is as it should be
-abbrev pub Writes : Option (List ℕ) → Option (List ℕ) → (List ℕ → Type 0) → Type 0
-Writes old new IsRight = (text : List ℕ) × Appends old new text × IsRight text
+unfoldable pub printed : List ℕ → List ℕ
+printed bytes =
+    cond (ltb own_bytes (length bytes)) (codes "input 2\n")
+    (cond (eqb (length bytes % 4) 0) (book_text bytes) (codes "input 1\n"))

@@ -3,7 +3,7 @@
 
 ghost use Rattle.std.specs.Prelude.{◌≡◌, ◌%◌, ◌≤◌, IfSome, OnOk, length};
 ghost use Rattle.std.specs.Io.KnownBytes.{Appends};
-ghost use Rattle.leverage_print.specs.Printed.{IsPrinted, ShowsFiling, Writes, refused_line, row_line, row_lines, verdict_line};
+ghost use Rattle.leverage_print.specs.Printed.{book_text, own_bytes, printed, refused_line, row_line, row_lines, verdict_line};
 
 use filing::Answer;
 use filing::alone::file_alone;
@@ -50,8 +50,8 @@ fn print_verdict<W: Write>(out: &mut W, verdict: u32) -> io::Result<()>
 // Files the words of the bytes, and prints what came of it.
 fn print_filed<W: Write>(out: &mut W, bytes: &[u8]) -> io::Result<()>
     requires whole { length bytes.now % 4 ≡ 0 }
-    requires room { length bytes.now ≤ 65536 }
-    ensures { OnOk result (Writes (W.contents out.old) (W.contents out.new) (ShowsFiling bytes.now)) }
+    requires room { length bytes.now ≤ own_bytes }
+    ensures { OnOk result (Appends (W.contents out.old) (W.contents out.new) (book_text bytes.now)) }
 {
     let n = bytes.len() / 4;
     let mut words = [0u32; OWN_WORDS];
@@ -69,7 +69,7 @@ fn print_filed<W: Write>(out: &mut W, bytes: &[u8]) -> io::Result<()>
 // Reads a book and prints its template, or what is wrong with the input.
 fn print_template<R: Read, W: Write>(input: &mut R, out: &mut W) -> io::Result<()>
     ensures { OnOk result (IfSome (R.remaining input.old)
-        (λ bytes. Writes (W.contents out.old) (W.contents out.new) (IsPrinted bytes))) }
+        (λ bytes. Appends (W.contents out.old) (W.contents out.new) (printed bytes))) }
 {
     // a byte more than its own words have, so that more is seen
     let mut bytes = [0u8; OWN_BYTES + 1];

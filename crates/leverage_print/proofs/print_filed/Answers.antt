@@ -1,21 +1,22 @@
-use Rattle.std.proofs.Common.{rules}
-use Rattle.filing.specs.declared.Answer.TheVariants.{Refused, Accepted}
-use Rattle.leverage_print.proofs.Shown.{is_book_of, shows_filing, writes, writes_after}
-use Rattle.leverage_print.specs.Printed.{row_lines, verdict_line}
+-- The words that were gathered are the book's, and the answer's text is the filing's. Assumes nothing.
+use Rattle.std.proofs.Common.{◌/◌, ◌≤◌, length, arith, pos, replicate}
+use Rattle.rules.specs.Register.{blank}
+use Rattle.leverage_print.specs.Printed.{book_text, words_of}
+use Rattle.leverage_print.proofs.Shown.{words_are, refused_text, accepted_text, joined}
 use Rattle.leverage_print.proofs.print_filed.Goals as goal
 
 pub returns-in-Refused : goal.returns-in-Refused
+unfolding book_text
 returns-in-Refused g c =
     let bytes = c.args.bytes.now in
-    let words = c.gather.new.words in
-    let book = is_book_of bytes words c.requires.whole (search rules) c.gather.ensures.gathered in
-    let shown = shows_filing bytes _ (Refused c.in-Refused.number c.in-Refused.place) c.file_alone.new.rows book c.in-Refused.ensures in
-    writes c.print_refused.result _ _ _ _ c.print_refused.ensures shown
+    let room : length bytes / 4 ≤ length c.gather.new.words = omega arith in
+    let e = rw (words_are bytes c.gather.new.words (length bytes / 4) room c.gather.ensures.gathered) at c.in-Refused.ensures in
+    rw (← refused_text (words_of bytes (length bytes / 4)) (replicate 22 (pos 0)) c.file_alone.new.rows (replicate 1024 blank) (replicate 1024 blank) c.in-Refused.number c.in-Refused.place e) c.print_refused.ensures
 
 pub returns-in_ok-print_rows-in-Accepted : goal.returns-in_ok-print_rows-in-Accepted
+unfolding book_text
 returns-in_ok-print_rows-in-Accepted g c =
     let bytes = c.args.bytes.now in
-    let words = c.gather.new.words in
-    let book = is_book_of bytes words c.requires.whole (search rules) c.gather.ensures.gathered in
-    let shown = shows_filing bytes _ (Accepted c.in-Accepted.verdict) c.file_alone.new.rows book c.in-Accepted.ensures in
-    writes_after c.print_verdict.result _ _ _ _ (row_lines c.file_alone.new.rows 22) (verdict_line c.in-Accepted.verdict) c.in_ok-print_rows-in-Accepted.ensures c.print_verdict.ensures shown
+    let room : length bytes / 4 ≤ length c.gather.new.words = omega arith in
+    let e = rw (words_are bytes c.gather.new.words (length bytes / 4) room c.gather.ensures.gathered) at c.in-Accepted.ensures in
+    rw (← accepted_text (words_of bytes (length bytes / 4)) (replicate 22 (pos 0)) c.file_alone.new.rows (replicate 1024 blank) (replicate 1024 blank) c.in-Accepted.verdict e) (joined _ _ _ _ _ _ c.in_ok-print_rows-in-Accepted.ensures c.print_verdict.ensures)
