@@ -3,6 +3,7 @@ use Prim.Native.Nat.{ℕ, zero, suc, ◌+◌, ◌-◌, ◌*◌, ◌≤◌, ◌<�
 use mathlib.Core.Path.{◌≡◌, refl, sym, ◌∙◌, ap}
 use mathlib.Core.Bool.{Bool, ◌||◌, or_assoc, or_comm}
 use mathlib.Core.List.{List, [], ◌∷◌, ◌++◌, map}
+use Rattle.std.specs.Prelude.{Result, Ok, Err}
 use native.Mathlib.Omega.{arith}
 use borrow.Author.Tests.{lt-leb, ltb-false}
 use lib.ListN.{length, take, drop, get_or, length-drop}
@@ -17,11 +18,13 @@ use Rattle.laws.proofs.Valid.{cause_none}
 use Rattle.records.proofs.Words.{lacking_short}
 use Rattle.baskets.specs.declared.grades.Grades.{Grades}
 use Rattle.baskets.specs.declared.read.BasketWords.{BasketWords}
-use Rattle.baskets.specs.declared.BasketRead.{BasketRead}
-use Rattle.baskets.specs.declared.BasketRead.TheVariants.{Whole, Refused}
+use Rattle.rules.specs.declared.causes.Cause.{Cause}
+use Rattle.rules.specs.Numbers.{cause_number}
+use Rattle.rules.proofs.Numbers.{cause_some}
+use Rattle.baskets.specs.declared.Basket.{Basket}
 use Rattle.baskets.specs.Grades.{no_amount, grades_of}
 use Rattle.baskets.specs.Words.{basket_words, cause_of, add_on_of}
-use Rattle.baskets.specs.Reading.{basket_fault_at, basket_cause, read_by, basket_read}
+use Rattle.baskets.specs.Reading.{Whole, Refused, read_in, basket_fault_at, basket_cause, read_by, basket_read}
 use Rattle.baskets.proofs.Worst.{qualifies}
 use Rattle.baskets.proofs.Causes.{any_no_amount, any_faulty_amount, any_faulty_grade}
 
@@ -97,33 +100,35 @@ module _ (ws : List ℕ) (at n : ℕ) (q : n ≡ names_in (word ws at)) where
   unfolding basket_cause
   read_short h = simp (← lacking_short ws at 0 (names_in (word ws at) + 2) (omega arith) (omega arith))
 
-  module _ (h : at + (n + 3) ≤ length ws) {b : BasketWords} (bq : b ≡ basket_words ws at) {f : ℕ} (fq : f ≡ cause_of b) where
-    here : f ≡ basket_cause ws at
-    here = fq ∙ ap cause_of bq ∙ cause_is ws at (omega arith)
+  module _ (h : at + (n + 3) ≤ length ws) {b : BasketWords} (bq : b ≡ basket_words ws at) where
+    here : cause_of b ≡ basket_cause ws at
+    here = ap cause_of bq ∙ cause_is ws at (omega arith)
 
-    pub read_refused : (f ≡ 0 → ⊥) → Refused f ≡ basket_read ws at
-    read_refused m = go f m ∙ ap (λ (x : ℕ). read_by x ws at) here
+    pub read_refused : (c : Cause) → cause_number c ≡ cause_of b → Refused (cause_number c) ≡ basket_read ws at
+    read_refused c fq = go (cause_number c) (cause_some c) ∙ ap (λ (x : ℕ). read_by x ws at) (fq ∙ here)
       where
         go : (g : ℕ) → (g ≡ 0 → ⊥) → Refused g ≡ read_by g ws at
         go zero k = absurd (k refl)
         go (suc g) k = refl
 
-    pub read_whole : f ≡ 0 → {a : ℕ} → a ≡ add_on_of b → {next : ℕ} → next ≡ at + (n + 3) → Whole b.value a next ≡ basket_read ws at
+    pub read_whole : 0 ≡ cause_of b → {a : ℕ} → a ≡ add_on_of b → {next : ℕ} → next ≡ at + (n + 3) → Whole b.value a next ≡ basket_read ws at
     unfolding basket_cause
     read_whole z aq nq =
         rw (nq, bq, q)
-        (ap (λ (a : ℕ). Whole (word ws (at + 1)) a (at + (names_in (word ws at) + 3))) (aq ∙ ap add_on_of bq ∙ add_on_is ws at (fault_none ws at (sym here ∙ z)))
-        ∙ ap (λ (x : ℕ). read_by x ws at) (sym z ∙ here))
+        (ap (λ (a : ℕ). Whole (word ws (at + 1)) a (at + (names_in (word ws at) + 3))) (aq ∙ ap add_on_of bq ∙ add_on_is ws at (fault_none ws at (sym (z ∙ here))))
+        ∙ ap (λ (x : ℕ). read_by x ws at) (z ∙ here))
 
 -- ---- what is told by what was read
 
-abbrev pub Told : List ℕ → ℕ → BasketRead → Type 0
-Told ws at (Whole value add_on next) = (basket_cause ws at ≡ 0) × ((value ≡ word ws (at + 1)) × ((add_on ≡ basket_add_on (basket_at ws at)) × (next ≡ at + (names_in (word ws at) + 3))))
-Told ws at (Refused number) = (number ≡ basket_cause ws at) × (number ≡ 0 → ⊥)
+abbrev pub Told : List ℕ → ℕ → Result Basket Cause → Type 0
+Told ws at (Ok b) = (basket_cause ws at ≡ 0) × ((b.value ≡ word ws (at + 1)) × ((b.add_on ≡ basket_add_on (basket_at ws at)) × (b.next ≡ at + (names_in (word ws at) + 3))))
+Told ws at (Err c) = cause_number c ≡ basket_cause ws at
 
-pub told : (ws : List ℕ) (at : ℕ) {r : BasketRead} → r ≡ basket_read ws at → Told ws at r
-told ws at q = rw q (go (basket_cause ws at) refl)
+pub told : (ws : List ℕ) (at : ℕ) (r : Result Basket Cause) → read_in r ≡ basket_read ws at → Told ws at r
+told ws at r q = go (basket_cause ws at) refl r q
   where
-    go : (number : ℕ) → basket_cause ws at ≡ number → Told ws at (read_by number ws at)
-    go zero e = (e, (refl, (refl, refl)))
-    go (suc number) e = (sym e, λ z. omega arith)
+    go : (number : ℕ) → basket_cause ws at ≡ number → (r : Result Basket Cause) → read_in r ≡ read_by number ws at → Told ws at r
+    go zero e (Ok b) p = (e, (cc, (cc, cc)))
+    go zero e (Err c) p = absurd cc
+    go (suc number) e (Ok b) p = absurd cc
+    go (suc number) e (Err c) p = cc

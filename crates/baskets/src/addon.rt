@@ -7,14 +7,15 @@ use crate::read::BasketWords;
 use figures::factors::credit_factor;
 use rules::payloads;
 use words::amount::size;
-use words::numbers::wide;
 use words::parts::field;
 
-// In thousandths.
-pub fn basket_add_on(b: BasketWords) -> u64
-    ensures { result ≡ add_on_of b }
-{
-    let nth = field(b.head, payloads::BASKET_NTH, payloads::BASKET_NTH_BITS);
-    let qualifying = nth_qualifies(b.failing, nth);
-    wide(credit_factor(qualifying)) * wide(size(b.notional))
+impl BasketWords {
+    // In thousandths.
+    pub fn add_on(self) -> u64
+        ensures { result ≡ add_on_of self }
+    {
+        let nth = field(self.head, payloads::BASKET_NTH, payloads::BASKET_NTH_BITS);
+        let qualifying = nth_qualifies(self.failing, nth);
+        u64::from(credit_factor(qualifying)) * u64::from(size(self.notional))
+    }
 }

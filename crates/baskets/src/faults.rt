@@ -1,42 +1,34 @@
-// The causes of a basket whose words are all there, 6 for one that is no amount and then 7, 8 and 17; 0 where none fits.
+// The causes of a basket whose words are all there, 6 for one that is no amount and then 7, 8 and 17.
 ghost use Rattle.std.specs.Prelude.{◌≡◌};
+ghost use Rattle.rules.specs.Numbers.{fault_in};
 ghost use Rattle.rules.specs.Word.{names_in, nth_in};
 ghost use Rattle.rules.specs.Faults.{names_fault};
 ghost use Rattle.baskets.specs.Words.{cause_of};
 
 use crate::read::BasketWords;
-use rules::{causes, kinds, limits, payloads};
+use rules::causes::Cause;
+use rules::kinds::Kind;
+use rules::{limits, payloads};
 use words::amount::{faulty_amount, minus_zero};
-use words::causes::cause;
-use words::numbers::either;
-use words::parts::{field, kind, payload};
+use words::causes::refuse_if;
+use words::parts::{field, is_kind, payload};
 
-// 17 is "last among that record's causes". A test that one of the grades fails, the word with the bits of all of them fails.
-pub fn basket_fault(b: BasketWords) -> u32
-    ensures { result ≡ cause_of b }
-{
-    let others = either(
-        kind(b.value) != kinds::AMOUNT,
-        kind(b.notional) != kinds::AMOUNT,
-    );
-    let signs = either(minus_zero(b.value), faulty_amount(b.notional));
-    let lacking = either(others, kind(b.all) != kinds::AMOUNT);
-    let bits = payload(b.head) >= payloads::BASKET_END;
-    let amounts = either(signs, faulty_amount(b.all));
-    let range = either(names_faulty(b.head), payload(b.all) > limits::GRADE);
-    cause(
-        causes::WORDS_LACKING,
-        lacking,
-        cause(
-            causes::PAYLOAD_FAULTY,
-            bits,
-            cause(
-                causes::AMOUNT_FAULTY,
-                amounts,
-                cause(causes::BASKET_FAULTY, range, causes::NONE),
-            ),
-        ),
-    )
+impl BasketWords {
+    // 17 is "last among that record's causes". A test that one of the grades fails, the word with the bits of all of them fails.
+    #[tactic(auto, unfolding(rules::specs::Faults::cause, crate::specs::Words::cause_of))]
+    pub fn check(self) -> Result<(), Cause>
+        ensures { fault_in result ≡ cause_of self }
+    {
+        let others = !is_kind(self.value, Kind::Amount) | !is_kind(self.notional, Kind::Amount);
+        let lacking = others | !is_kind(self.all, Kind::Amount);
+        refuse_if(lacking, Cause::WordsLacking)?;
+        let beyond = payload(self.head) >= payloads::BASKET_END;
+        refuse_if(beyond, Cause::PayloadFaulty)?;
+        let signs = minus_zero(self.value) | faulty_amount(self.notional);
+        refuse_if(signs | faulty_amount(self.all), Cause::AmountFaulty)?;
+        let range = names_faulty(self.head) | (payload(self.all) > limits::GRADE);
+        refuse_if(range, Cause::BasketFaulty)
+    }
 }
 
 // "both 1 to 32 and n at most m": where n is at least 1, m at most 32 and n at most m, the other two ends hold.
@@ -45,5 +37,5 @@ fn names_faulty(head: u32) -> bool
 {
     let nth = field(head, payloads::BASKET_NTH, payloads::BASKET_NTH_BITS);
     let names = field(head, payloads::BASKET_NAMES, payloads::BASKET_NAMES_BITS);
-    either(either(nth < 1, names > limits::NAMES), names < nth)
+    (nth < 1) | (names > limits::NAMES) | (names < nth)
 }

@@ -4,7 +4,7 @@ ghost use Rattle.rules.specs.Word.{names_in, word};
 ghost use Rattle.records.specs.Readable.{Readable};
 ghost use Rattle.baskets.specs.Words.{basket_words};
 
-use crate::grades::{Grades, counted, looked_at, with_grade};
+use crate::grades::{Grades, counted, looked_at};
 use rules::{lengths, payloads};
 use words::parts::field;
 
@@ -25,6 +25,7 @@ pub fn names_in(head: u32) -> usize
 }
 
 // The basket at a place, all of whose words are there. Words behind it may be looked at, and change nothing.
+#[tactic(auto, using(crate::proofs::Gathering::gathering_next))]
 pub fn basket_words(part: &[u32], at: usize) -> BasketWords
     requires { Readable (at + (names_in (word part.now at) + 3)) part.now }
     ensures { result ≡ basket_words part.now at }
@@ -34,14 +35,12 @@ pub fn basket_words(part: &[u32], at: usize) -> BasketWords
     let names = names_in(head);
     let end = begin + looked_at(names, part.len() - begin);
     let words = &part[begin..end];
-    let mut g = Grades { all: 0, failing: 0 };
-    let mut i = 0;
-    while i < words.len() {
-        g = with_grade(g, counted(words[i], i, names));
-        i += 1;
+    let mut g = Grades::default();
+    for (i, w) in words.iter().enumerate() {
+        g = g.with(counted(*w, i, names));
     }
     BasketWords {
-        head: head,
+        head,
         value: part[at + 1],
         notional: part[at + 2],
         all: g.all,

@@ -47,19 +47,18 @@ ends j n h =
       same_day (leap_days z) (leap_small z) (leap_days y) w.day (leap_small y) w.within,
     ))
 
--- so for one year and five, with the leap days one by one; y is that year
+-- so for one year and five; y is that year
 pub bands_are :
-    {y first : ℕ} (n short medium : ℕ)
-    → first ≡ leap_days y
+    {y : ℕ} (n short medium : ℕ)
     → n ≤ last_date
     → y ≡ next_february n
-    → short ≡ 365 + first
-    → medium ≡ 1825 + first + leap_days (y + 1) + leap_days (y + 2) + leap_days (y + 3) + leap_days (y + 4)
+    → short ≡ 365 * 1 + days_of leap_days y 1
+    → medium ≡ 365 * 5 + days_of leap_days y 5
     → record { short = short; medium = medium } ≡ bands_of n
-unfolding days_of bands_of
-bands_are n short medium f h e s m =
-    let a : short ≡ days_to 1 n = omega (arith, rw (← e, add-zero) at (ends 1 n h)) in
-    let b : medium ≡ days_to 5 n = omega (arith, rw (← e, add-zero) at (ends 5 n h)) in
+unfolding bands_of
+bands_are n short medium h e s m =
+    let a : short ≡ days_to 1 n = omega (arith, rw (← e) at (ends 1 n h)) in
+    let b : medium ≡ days_to 5 n = omega (arith, rw (← e) at (ends 5 n h)) in
     λ i. record { short = a i; medium = b i }
 
 pub counted : AllCounted

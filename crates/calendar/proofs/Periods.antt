@@ -1,12 +1,22 @@
 -- Periods one after the other, years or months: each day is found in its own. Assumes nothing.
 use Prim.Native.Nat.{ℕ, zero, suc, ◌+◌, ◌-◌, ◌<◌, ◌≤◌}
-use mathlib.Core.Path.{◌≡◌}
+use mathlib.Core.Path.{◌≡◌, refl}
 use native.Mathlib.Nat.{add-zero}
+use native.Mathlib.Numerals.{add-one}
 use native.Mathlib.Omega.{arith}
 use borrow.Author.Tests.{lt-ltb, le-ltb}
 use Rattle.rules.specs.Calendar.{days_of, after}
 
 module _ (days : ℕ → ℕ) where
+  -- the days of none of them, and of one more
+  pub none_of : (first : ℕ) → days_of days first 0 ≡ 0
+  unfolding days_of
+  none_of first = refl
+
+  pub one_more : (first k : ℕ) → days_of days first (k + 1) ≡ days_of days first k + days (first + k)
+  unfolding days_of
+  one_more first k = rw (add-one k) refl
+
   -- the first of them, taken off at the front
   pub first_off : (first k : ℕ) → days_of days first (suc k) ≡ days first + days_of days (first + 1) k
   unfolding days_of

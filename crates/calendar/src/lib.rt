@@ -2,17 +2,15 @@
 // specs/Calendar.antt of the crate `rules`; what is claimed of it besides is in specs/Claims.antt.
 #![tactic(auto)]
 
-ghost use Rattle.std.specs.Prelude.{◌≡◌, ◌≤◌};
-ghost use Rattle.rules.specs.Calendar.{bands_of, last_date, leap_days};
+ghost use Rattle.std.specs.Prelude.{◌≡◌, ◌+◌, ◌*◌, ◌≤◌};
+ghost use Rattle.rules.specs.Calendar.{bands_of, days_of, last_date, leap_days};
 
 use rules::Bands;
 
 // Day 0 is 1 January of this year, a leap year.
 const FIRST_YEAR: u32 = 2000;
-// A year without its leap day, and five without theirs.
+// A year without its leap day.
 const YEAR: u32 = 365;
-
-const FIVE_YEARS: u32 = 5 * YEAR;
 // Four years, the first of them a leap year. Counted in quarters of a day each has this length: a day is of the year in which its
 // first quarter lies, which gives 366, 365, 365 and 365 days.
 const CYCLE: u32 = 4 * YEAR + 1;
@@ -22,35 +20,36 @@ const LEAP_DAY: u32 = 59;
 const SINCE_FEBRUARY: u32 = CYCLE - 4 * LEAP_DAY;
 
 // How many 29ths of February a year has.
+#[tactic(auto, unfolding(rules::specs::Calendar::leap_days))]
 pub fn leap_days(year: u32) -> u32
     ensures { (result ≡ leap_days year) × (result ≤ 1) }
 {
-    if year % 4 != 0 {
-        return 0;
-    }
-    if year % 100 != 0 {
-        return 1;
-    }
-    if year % 400 != 0 {
-        return 0;
-    }
-    1
+    u32::from(year % 4 == 0 && (year % 100 != 0 || year % 400 == 0))
 }
 
-// "A band ends on the same calendar day one or five years later, 29 February going to 28 February where there is none": 365 days a
-// year, and the leap days of as many years, the first of them that of the next end of February. 29 February has this end behind it,
-// as it goes to the 28th.
+// 365 days a year, and the leap days of as many years, from a first one on.
+#[tactic(auto, using(crate::proofs::Periods::none_of, crate::proofs::Periods::one_more))]
+fn days_of_years(first: u32, years: u32) -> u32
+    requires { (first ≤ 9999) × (years ≤ 5) }
+    ensures { result ≡ 365 * years + days_of leap_days first years }
+{
+    let mut days = YEAR * years;
+    for k in 0..years {
+        days += leap_days(first + k);
+    }
+    days
+}
+
+// "A band ends on the same calendar day one or five years later, 29 February going to 28 February where there is none": the first of the leap
+// days is that of the next end of February. 29 February has this end behind it, as it goes to the 28th.
+#[tactic(auto, using(crate::proofs::Ends::bands_are))]
 pub fn bands_of_date(date: u32) -> Bands
     requires { date ≤ last_date }
     ensures { result ≡ bands_of date }
 {
     let year = FIRST_YEAR + (4 * date + SINCE_FEBRUARY) / CYCLE;
-    let first = leap_days(year);
-    let second = leap_days(year + 1);
-    let third = leap_days(year + 2);
-    let fourth = leap_days(year + 3);
-    let fifth = leap_days(year + 4);
-    let short = YEAR + first;
-    let medium = FIVE_YEARS + first + second + third + fourth + fifth;
-    Bands { short, medium }
+    Bands {
+        short: days_of_years(year, 1),
+        medium: days_of_years(year, 5),
+    }
 }

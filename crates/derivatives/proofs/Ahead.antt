@@ -1,7 +1,6 @@
 -- What lies ahead in a set, by what stands where a member or a cover is due. Assumes nothing.
 use Prim.Native.Nat.{ℕ, zero, suc, ◌+◌, ◌-◌, ◌≤◌}
 use mathlib.Core.Path.{◌≡◌, refl, ◌∙◌, ap}
-use mathlib.Core.Bool.{true}
 use mathlib.Core.List.{List, [], ◌∷◌}
 use native.Mathlib.Nat.{add-zero, zero-add, add_assoc}
 use lib.ListN.{length}
@@ -52,7 +51,7 @@ module _ (bands : Bands) (ws : List ℕ) (begin : ℕ) where
 
     -- a written credit opens, and its covers are due
     abbrev pub opening : OpenCredit
-    opening = record { allowed = true; place = at; covered = 0; room = size_of (word ws (at + 2)) - size_of (word ws (at + 3)) }
+    opening = record { place = at; covered = 0; room = size_of (word ws (at + 2)) - size_of (word ws (at + 3)) }
 
     same_draws : (room : ℕ) (all cs : List Cover) → draws_from begin room (written_at ws at all) cs ≡ draws_from begin room (written_at ws at []) cs
     unfolding draws_from written_at

@@ -1,11 +1,12 @@
 -- The loop over a run of trades, and what its set makes of it. Assumes nothing.
 use Prim.Native.Nat.{ℕ, ◌+◌, ◌≤◌}
-use mathlib.Core.Path.{◌≡◌, refl, sym, ◌∙◌}
-use mathlib.Core.Bool.{Bool, true, false, true≢false}
+use mathlib.Core.Path.{◌≡◌, sym, ◌∙◌}
+use mathlib.Core.Bool.{Bool, true, true≢false}
 use mathlib.Core.List.{List}
 use native.Mathlib.Omega.{arith}
 use borrow.Author.Tests.{eqb-true}
 use lib.Dec.{eqb}
+use Rattle.std.specs.Prelude.{None, Ok}
 use Rattle.rules.specs.declared.Bands.{Bands}
 use Rattle.rules.specs.Book.{trade}
 use Rattle.rules.specs.Read.{stands}
@@ -13,13 +14,12 @@ use Rattle.rules.proofs.Lists.{and_left, and_right}
 use Rattle.records.specs.Readable.{Readable}
 use Rattle.weighing.specs.declared.read.TradeWords.{TradeWords}
 use Rattle.weighing.specs.declared.tally.Tally.{Tally}
-use Rattle.derivatives.specs.declared.covers.OpenCredit.{OpenCredit}
 use Rattle.derivatives.specs.declared.trades.TradeRun.{TradeRun}
-use Rattle.derivatives.specs.declared.members.MemberStep.TheVariants.{Next, Refused}
+use Rattle.derivatives.specs.declared.members.MemberStep.TheVariants.{Next}
 use Rattle.weighing.specs.Words.{trade_words, trade_of, trade_cause, sound_trade}
 use Rattle.weighing.specs.Gathered.{plus_member}
-use Rattle.derivatives.specs.Ahead.{no_credit, from_member, set_ahead, Standing, MemberRead, TradesRead}
-use Rattle.derivatives.proofs.Turns.{trade_faulty, trade_readable, trade_good}
+use Rattle.derivatives.specs.Ahead.{from_member, set_ahead, Standing, MemberRead, TradesRead}
+use Rattle.derivatives.proofs.Turns.{trade_readable, trade_good}
 
 -- ---- the loop over a run: what lies ahead stays the same at every turn
 
@@ -27,9 +27,6 @@ pub record Passing (bands : Bands) (ws : List ℕ) (from : ℕ) (first : Tally) 
   pub same : (begin : ℕ) → from_member bands ws begin first from ≡ from_member bands ws begin t at
   pub standing : Standing ws at t
   pub reached : from ≤ at
-
-pub passing_begins : (bands : Bands) (ws : List ℕ) (from : ℕ) (t : Tally) → Standing ws from t → Passing bands ws from t t from
-passing_begins bands ws from t s = record { same = λ begin. refl; standing = s; reached = omega arith }
 
 module _ {bands : Bands} {ws : List ℕ} {from at : ℕ} {first t : Tally} (p : Passing bands ws from first t at) {good : Bool} (q : good ≡ sound_trade ws at) where
   -- a good trade
@@ -41,34 +38,26 @@ module _ {bands : Bands} {ws : List ℕ} {from at : ℕ} {first t : Tally} (p : 
     sound = eqb-true (trade_cause ws at) 0 (and_right (stands 5 ws at) (eqb (trade_cause ws at) 0) (sym q ∙ g))
 
     pub words_there : Readable (at + 5) ws
-    words_there = trade_readable p.standing here refl sound
+    words_there = trade_readable p.standing here sound
 
     pub passing_next : {x : TradeWords} → x ≡ trade_words ws at → {more : Tally} → more ≡ plus_member bands t (trade (trade_of x)) → Passing bands ws from first more (at + 5)
     unfolding set_ahead
     passing_next xq {more} mq =
-        let r : MemberRead bands ws at t (Next (record { at = at + 5; tally = more; credit = no_credit })) = trade_good p.standing here refl sound bands xq mq refl in
+        let r : MemberRead bands ws at t (Ok (Next (record { at = at + 5; tally = more; credit = None }))) = trade_good p.standing here sound bands xq mq in
         record {
           same = λ begin. p.same begin ∙ r.0 begin;
           standing = record { readable = r.1.0.readable; small = r.1.0.small };
           reached = omega (arith, p.reached);
         }
 
-  -- none
-  pub passing_ends : good ≡ false → TradesRead bands ws from first (record { tally = t; next = at })
-  passing_ends g = record { same = p.same; standing = p.standing; reached = p.reached; over = sym q ∙ g }
-
 -- ---- a run where a trade stands
 
 module _ {bands : Bands} {ws : List ℕ} {at : ℕ} {t : Tally} {r : TradeRun} (k : stands 5 ws at ≡ true) (run : TradesRead bands ws at t r) where
   -- it did not move
-  pub run_refused : Standing ws at t → r.next ≡ at → {f : ℕ} → f ≡ trade_cause ws at → MemberRead bands ws at t (Refused f at)
-  run_refused s e q = trade_faulty s k q bands (λ z. true≢false (sym (simp (k, ← q, z)) ∙ rw e at run.over))
+  pub run_faulty : r.next ≡ at → trade_cause ws at ≡ 0 → ⊥
+  run_faulty e z = true≢false (sym (simp (k, z)) ∙ rw e at run.over)
 
   -- it did
-  pub run_moved : (r.next ≡ at → ⊥) → {c : OpenCredit} → c ≡ no_credit → MemberRead bands ws at t (Next (record { at = r.next; tally = r.tally; credit = c }))
+  pub run_moved : (r.next ≡ at → ⊥) → MemberRead bands ws at t (Ok (Next (record { at = r.next; tally = r.tally; credit = None })))
   unfolding set_ahead
-  run_moved n cq =
-      rw cq (
-        run.same,
-        (record { readable = run.standing.readable; small = run.standing.small; credit = λ y. let z : ◌≡◌ {A = ℕ} 0 1 = cc in absurd (omega arith) }, omega (arith, run.reached)),
-      )
+  run_moved n = (run.same, (record { readable = run.standing.readable; small = run.standing.small; credit = tt }, omega (arith, run.reached)))

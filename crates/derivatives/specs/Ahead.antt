@@ -1,8 +1,10 @@
 -- A derivative set that is being read, and what lies ahead in it: how it ends, and the draws of its covers up to there. The words are those
 -- of the part of the book that begins at the set's head. Assumes nothing.
-use Rattle.std.specs.Prelude.{ℕ, zero, suc, ◌+◌, ◌-◌, ◌*◌, ◌^◌, ◌≤◌, ◌<◌, ◌≡◌, true, false, cond, List, [], ◌∷◌, ◌++◌, length}
+use Rattle.std.specs.Prelude.{ℕ, zero, suc, ◌+◌, ◌-◌, ◌*◌, ◌^◌, ◌≤◌, ◌<◌, ◌≡◌, false, List, [], ◌∷◌, ◌++◌, length, Option, Some, None, IfSome, Result, Ok, Err}
 use Rattle.rules.specs.declared.Bands.{Bands}
 use Rattle.rules.specs.declared.Draw.{Draw}
+use Rattle.rules.specs.declared.causes.Refusal.{Refusal}
+use Rattle.rules.specs.Numbers.{cause_number}
 use Rattle.rules.specs.Word.{word, size_of}
 use Rattle.rules.specs.Book.{Member, total}
 use Rattle.rules.specs.Book as book
@@ -17,11 +19,7 @@ use Rattle.weighing.specs.declared.read.CoverWords.{CoverWords}
 use Rattle.derivatives.specs.declared.trades.TradeRun.{TradeRun}
 use Rattle.derivatives.specs.declared.set.OpenSet.{OpenSet}
 use Rattle.derivatives.specs.declared.set.Weighed.{Weighed}
-use Rattle.derivatives.specs.declared.set.Weighed.TheVariants.{Cover, Whole, Refused}
-use Rattle.derivatives.specs.declared.set.Stretch.{Stretch}
-use Rattle.derivatives.specs.declared.set.Stretch.TheVariants as stretch
-use Rattle.derivatives.specs.declared.members.BasketStep.{BasketStep}
-use Rattle.derivatives.specs.declared.members.BasketStep.TheVariants as basket
+use Rattle.derivatives.specs.declared.set.Weighed.TheVariants.{Cover, Whole}
 use Rattle.derivatives.specs.declared.members.MemberStep.{MemberStep}
 use Rattle.derivatives.specs.declared.members.MemberStep.TheVariants.{Next, End}
 use Rattle.derivatives.specs.declared.members.MemberStep.TheVariants as step
@@ -71,14 +69,20 @@ covers_ahead bands ws begin t c r = covers_by bands ws begin t c r.number r.reco
 unfoldable pub from_cover : Bands → List ℕ → (begin : ℕ) → Tally → OpenCredit → (at : ℕ) → SetAhead
 from_cover bands ws begin t c at = covers_ahead bands ws begin t c (run_from (cover_turn ws) (suc (length ws)) at)
 
+-- from a cover of the open credit on, if there is one, else from a member on
+abbrev pub ahead_by : Bands → List ℕ → (begin : ℕ) → Tally → (at : ℕ) → Option OpenCredit → SetAhead
+ahead_by bands ws begin t at None = from_member bands ws begin t at
+ahead_by bands ws begin t at (Some c) = from_cover bands ws begin t c at
+
 -- from where a set that is being read stands
 unfoldable pub set_ahead : Bands → List ℕ → (begin : ℕ) → OpenSet → SetAhead
-set_ahead bands ws begin o = cond o.credit.allowed (from_cover bands ws begin o.tally o.credit o.at) (from_member bands ws begin o.tally o.at)
+set_ahead bands ws begin o = ahead_by bands ws begin o.tally o.at o.credit
+
+-- turned away, by the paper's number
+abbrev pub turned_away : Refusal → SetAhead
+turned_away r = ends_with (refused (cause_number r.cause) r.place)
 
 -- ---- a cover of the open credit
-
-abbrev pub no_credit : OpenCredit
-no_credit = record { allowed = false; place = 0; covered = 0; room = 0 }
 
 abbrev pub draw_of : WrittenWords → CoverWords → (at room : ℕ) → Draw
 draw_of w c at room = record {
@@ -96,17 +100,21 @@ abbrev pub draw_here : List ℕ → (begin at : ℕ) → OpenCredit → Draw
 draw_here ws begin at c = draw_of (written_words ws c.place) (cover_words ws at) (begin + at) c.room
 
 abbrev pub plus_cover : OpenCredit → (amount : ℕ) → OpenCredit
-plus_cover c amount = record { allowed = true; place = c.place; covered = c.covered + amount; room = c.room - amount }
+plus_cover c amount = record { place = c.place; covered = c.covered + amount; room = c.room - amount }
 
--- the tally with the open credit in it, now that its covers are over
+-- the tally with the open credit in it, if there is one, now that its covers are over
+abbrev pub closed_by : List ℕ → Tally → Option OpenCredit → Tally
+closed_by ws t None = t
+closed_by ws t (Some c) = plus_written t (written_at ws c.place []) c.covered
+
 unfoldable pub closed_tally : List ℕ → OpenSet → Tally
-closed_tally ws o = cond o.credit.allowed (plus_written o.tally (written_at ws o.credit.place []) o.credit.covered) o.tally
+closed_tally ws o = closed_by ws o.tally o.credit
 
 -- ---- a set whose head was read
 
 -- its members stand behind its three amounts
 abbrev pub new_set : OpenSet
-new_set = record { at = 4; tally = no_tally; credit = no_credit }
+new_set = record { at = 4; tally = no_tally; credit = None }
 
 -- ---- how large it all is: 2 ^ 41 for each word behind the head
 
@@ -122,13 +130,14 @@ pub record OpenIn (ws : List ℕ) (c : OpenCredit) (at : ℕ) : Type 0 where
   pub covered : c.covered + 2 ^ 27 * (c.place + 6) ≤ 2 ^ 27 * at
 
 -- up to where the tally has gathered
-abbrev pub gathered_to : OpenSet → ℕ
-gathered_to o = cond o.credit.allowed o.credit.place o.at
+abbrev pub gathered_to : (at : ℕ) → Option OpenCredit → ℕ
+gathered_to at None = at
+gathered_to at (Some c) = c.place
 
 pub record SoundSet (ws : List ℕ) (o : OpenSet) : Type 0 where
   pub readable : Readable o.at ws
-  pub small : TallyUpTo o.tally (gathered_to o)
-  pub credit : o.credit.allowed ≡ true → OpenIn ws o.credit o.at
+  pub small : TallyUpTo o.tally (gathered_to o.at o.credit)
+  pub credit : IfSome o.credit (λ c. OpenIn ws c o.at)
 
 -- where a member is due, with a tally of all before
 pub record Standing (ws : List ℕ) (at : ℕ) (t : Tally) : Type 0 where
@@ -142,20 +151,20 @@ abbrev pub Neither : List ℕ → ℕ → Type 0
 Neither ws at = (stands 5 ws at ≡ false) × (stands 6 ws at ≡ false)
 
 -- one step: a member more, a cover to be drawn, neither a trade nor a written credit, or a fault
-abbrev pub step_ahead : Bands → List ℕ → (begin at : ℕ) → MemberStep → SetAhead
-step_ahead bands ws begin at (Next o) = set_ahead bands ws begin o
-step_ahead bands ws begin at (step.Cover d o) = after (d ∷ []) (set_ahead bands ws begin o)
-step_ahead bands ws begin at (End t) = from_member bands ws begin t at
-step_ahead bands ws begin at (step.Refused number place) = ends_with (refused number place)
+abbrev pub step_ahead : Bands → List ℕ → (begin at : ℕ) → Result MemberStep Refusal → SetAhead
+step_ahead bands ws begin at (Ok (Next o)) = set_ahead bands ws begin o
+step_ahead bands ws begin at (Ok (step.Cover d o)) = after (d ∷ []) (set_ahead bands ws begin o)
+step_ahead bands ws begin at (Ok (End t)) = from_member bands ws begin t at
+step_ahead bands ws begin at (Err r) = turned_away r
 
-abbrev pub SoundStep : List ℕ → (at : ℕ) → MemberStep → Type 0
-SoundStep ws at (Next o) = SoundSet ws o × (at < o.at)
-SoundStep ws at (step.Cover d o) = SoundSet ws o
-SoundStep ws at (End t) = TallyUpTo t at × Neither ws at
-SoundStep ws at (step.Refused number place) = place ≤ length ws
+abbrev pub SoundStep : List ℕ → (at : ℕ) → Result MemberStep Refusal → Type 0
+SoundStep ws at (Ok (Next o)) = SoundSet ws o × (at < o.at)
+SoundStep ws at (Ok (step.Cover d o)) = SoundSet ws o
+SoundStep ws at (Ok (End t)) = TallyUpTo t at × Neither ws at
+SoundStep ws at (Err r) = r.place ≤ length ws
 
 -- what stood where a member was due, wherever the set begins
-abbrev pub MemberRead : Bands → List ℕ → (at : ℕ) → Tally → MemberStep → Type 0
+abbrev pub MemberRead : Bands → List ℕ → (at : ℕ) → Tally → Result MemberStep Refusal → Type 0
 MemberRead bands ws at t r = ((begin : ℕ) → from_member bands ws begin t at ≡ step_ahead bands ws begin at r) × SoundStep ws at r
 
 -- a run of trades from a place on, up to where no trade without a fault stands
@@ -165,30 +174,30 @@ pub record TradesRead (bands : Bands) (ws : List ℕ) (from : ℕ) (t : Tally) (
   pub reached : from ≤ r.next
   pub over : sound_trade ws r.next ≡ false
 
--- a stretch of them from a place on
-abbrev pub stretch_ahead : Bands → List ℕ → (begin : ℕ) → Stretch → SetAhead
-stretch_ahead bands ws begin (stretch.Cover d o) = after (d ∷ []) (set_ahead bands ws begin o)
-stretch_ahead bands ws begin (stretch.Over t place) = from_member bands ws begin t place
-stretch_ahead bands ws begin (stretch.Refused number place) = ends_with (refused number place)
+-- a stretch of them from a place on, up to a cover or to where neither a trade nor a written credit stands
+abbrev pub stretch_ahead : Bands → List ℕ → (begin : ℕ) → Result Weighed Refusal → SetAhead
+stretch_ahead bands ws begin (Ok (Cover d o)) = after (d ∷ []) (set_ahead bands ws begin o)
+stretch_ahead bands ws begin (Ok (Whole t place)) = from_member bands ws begin t place
+stretch_ahead bands ws begin (Err r) = turned_away r
 
-abbrev pub SoundStretch : List ℕ → (from : ℕ) → Stretch → Type 0
-SoundStretch ws from (stretch.Cover d o) = SoundSet ws o
-SoundStretch ws from (stretch.Over t place) = Standing ws place t × (Neither ws place × (from ≤ place))
-SoundStretch ws from (stretch.Refused number place) = place ≤ length ws
+abbrev pub SoundStretch : List ℕ → (from : ℕ) → Result Weighed Refusal → Type 0
+SoundStretch ws from (Ok (Cover d o)) = SoundSet ws o
+SoundStretch ws from (Ok (Whole t place)) = Standing ws place t × (Neither ws place × (from ≤ place))
+SoundStretch ws from (Err r) = r.place ≤ length ws
 
 -- a basket, if one stands there
-abbrev pub BasketTaken : List ℕ → (at : ℕ) → Tally → BasketStep → Type 0
-BasketTaken ws at t (basket.Next o) = (bands : Bands) → MemberRead bands ws at t (Next o)
-BasketTaken ws at t basket.None = stands 11 ws at ≡ false
-BasketTaken ws at t (basket.Refused number) = (bands : Bands) → MemberRead bands ws at t (step.Refused number at)
+abbrev pub BasketTaken : List ℕ → (at : ℕ) → Tally → Result (Option OpenSet) Refusal → Type 0
+BasketTaken ws at t (Ok (Some o)) = (bands : Bands) → MemberRead bands ws at t (Ok (Next o))
+BasketTaken ws at t (Ok None) = stands 11 ws at ≡ false
+BasketTaken ws at t (Err r) = (bands : Bands) → MemberRead bands ws at t (Err r)
 
 -- the next cover, or the end
-abbrev pub weighed_ahead : Bands → List ℕ → (begin : ℕ) → Weighed → SetAhead
-weighed_ahead bands ws begin (Cover d o) = after (d ∷ []) (set_ahead bands ws begin o)
-weighed_ahead bands ws begin (Whole t place) = ends_with (gathered t place)
-weighed_ahead bands ws begin (Refused number place) = ends_with (refused number place)
+abbrev pub weighed_ahead : Bands → List ℕ → (begin : ℕ) → Result Weighed Refusal → SetAhead
+weighed_ahead bands ws begin (Ok (Cover d o)) = after (d ∷ []) (set_ahead bands ws begin o)
+weighed_ahead bands ws begin (Ok (Whole t place)) = ends_with (gathered t place)
+weighed_ahead bands ws begin (Err r) = turned_away r
 
-abbrev pub SoundWeighed : List ℕ → Weighed → Type 0
-SoundWeighed ws (Cover d o) = SoundSet ws o
-SoundWeighed ws (Whole t place) = TallyUpTo t place × (place ≤ length ws)
-SoundWeighed ws (Refused number place) = place ≤ length ws
+abbrev pub SoundWeighed : List ℕ → Result Weighed Refusal → Type 0
+SoundWeighed ws (Ok (Cover d o)) = SoundSet ws o
+SoundWeighed ws (Ok (Whole t place)) = TallyUpTo t place × (place ≤ length ws)
+SoundWeighed ws (Err r) = r.place ≤ length ws

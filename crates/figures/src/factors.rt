@@ -5,7 +5,6 @@ ghost use Rattle.figures.specs.Figures.{factor_figures};
 ghost use Rattle.figures.specs.Floor.{factor_by, floor_of};
 
 use rules::Bands;
-use words::numbers::{from_byte, one_if};
 
 // A row for each class and a column for each band: rates, currency and gold, equity, other precious metals, other commodities; then bought credit,
 // floating against floating, and a class that is faulty. Behind the eight stand those with a qualifying reference, which only bought credit has.
@@ -30,13 +29,6 @@ const FACTORS: [[u8; 3]; 16] = [
 
 // How far behind a class the same with a qualifying reference stands.
 const QUALIFYING_ROWS: u32 = 8;
-
-// A caller makes it once and lends it for each trade, since the compiler makes a constant table anew where it is read.
-pub fn factor_figures() -> [[u8; 3]; 16]
-    ensures { result ≡ factor_figures }
-{
-    FACTORS
-}
 
 // "for 365 days or less, up to 1,825, beyond", by the counted days of the bands
 pub fn band(bands: Bands, days: u32) -> usize
@@ -68,6 +60,7 @@ pub fn deciding_days(resets: bool, days: u32, reset_days: u32) -> u32
 // "a rates trade with more than 365 days remaining then has at least 5", and "The reset floor uses the same one-year end": what is added to the
 // figure of the first band, which is 0 for rates; in the other bands they have 5 and more. The remaining days decide whether it applies, not
 // those that chose the band; where they pass the end, only a reset can have chosen the first.
+#[tactic(auto, unfolding(crate::specs::Floor::floor_of))]
 fn reset_floor(bands: Bands, class: u32, days: u32, deciding: u32) -> u32
     ensures { (result ≡ floor_of bands class days deciding) × (result ≤ 5) }
 {
@@ -83,20 +76,35 @@ fn reset_floor(bands: Bands, class: u32, days: u32, deciding: u32) -> u32
     5
 }
 
-// The factor of a trade of any class, by the days that remain and those that decide on its band.
-pub fn trade_factor(
-    figures: &[[u8; 3]; 16],
-    bands: Bands,
-    class: u32,
-    qualifying: bool,
-    days: u32,
-    deciding: u32,
-) -> u32
-    requires { (figures.now ≡ factor_figures) × (class < 8) }
-    ensures { result ≡ factor_by bands class qualifying days deciding }
-{
-    let floor = reset_floor(bands, class, days, deciding);
-    let column = band(bands, deciding);
-    let row = class + QUALIFYING_ROWS * one_if(qualifying);
-    floor + from_byte(figures[row as usize][column])
+// The table of the paper, as `paper` says of each one. A caller makes it once and lends it for each trade, since the compiler makes a
+// constant table anew where it is read.
+#[derive(Drop)]
+pub struct FactorTable {
+    figures: [[u8; 3]; 16],
+    ghost paper: { figures ≡ factor_figures },
+}
+
+impl FactorTable {
+    pub fn new() -> FactorTable {
+        FactorTable { figures: FACTORS }
+    }
+
+    // A class is a number, since it is a row of the table. The factor of a trade of any class, by the days that remain and those that decide on its band.
+    #[tactic(auto, using(crate::proofs::Factor::cell_is), unfolding(crate::specs::Floor::factor_by))]
+    pub fn factor(
+        &self,
+        bands: Bands,
+        class: u32,
+        qualifying: bool,
+        days: u32,
+        deciding: u32,
+    ) -> u32
+        requires { class < 8 }
+        ensures { result ≡ factor_by bands class qualifying days deciding }
+    {
+        let floor = reset_floor(bands, class, days, deciding);
+        let column = band(bands, deciding);
+        let row = class + QUALIFYING_ROWS * u32::from(qualifying);
+        floor + u32::from(self.figures[row as usize][column])
+    }
 }

@@ -1,7 +1,7 @@
 -- The filing as a whole: the rows test, the admission, the template. Assumes nothing.
 use Prim.Native.Nat.{ℕ, ◌≤◌, ◌<◌}
 use mathlib.Core.Path.{◌≡◌, refl}
-use mathlib.Core.List.{List}
+use mathlib.Core.List.{List, ◌++◌}
 use native.Mathlib.Omega.{arith}
 use borrow.Author.Tests.{lt-ltb, le-ltb}
 use lib.IntN.{ℤ}
@@ -9,7 +9,14 @@ use lib.ListN.{length}
 use Rattle.rules.specs.declared.Entry.{Entry}
 use Rattle.rules.specs.Book.{Placed}
 use Rattle.rules.specs.Read.{head_of}
-use Rattle.rules.specs.Rows.{sums_of}
+use Rattle.rules.specs.declared.Sums.{Sums}
+use Rattle.rules.specs.declared.causes.Cause.TheVariants.{RowsShort}
+use Rattle.rules.specs.declared.causes.Refusal.{Refusal}
+use Rattle.rules.specs.declared.verdicts.Verdict.{Verdict}
+use Rattle.rules.specs.Numbers.{cause_number, verdict_number}
+use Rattle.rules.specs.Ratio.{tier1_of, verdict_of}
+use Rattle.rules.specs.Rows.{sums_of, exposure_row, rows_of}
+use Rattle.std.specs.Prelude.{Ok, Err, drop}
 use Rattle.rules.specs.Filing.{Outcome, early, refused, accepted, admission, outcome_of, register_after, filing_of, filing}
 use Rattle.rules.proofs.Lists.{total_le_all}
 use Rattle.laws.proofs.GoodHead.{good_head}
@@ -18,10 +25,9 @@ use Rattle.laws.proofs.ExposureSum.{accepted_balance, ups_are, downs_are}
 use Rattle.laws.proofs.ItemBounds.{item_weight, items_small}
 use Rattle.laws.proofs.ItemRows.{all_rows, rows_at_most, sums_total}
 use Rattle.template.specs.Sections.{SumsFit}
-use Rattle.reading.specs.declared.Admission.{Admission}
-use Rattle.filing.specs.declared.Answer.{Answer}
-use Rattle.filing.specs.declared.Answer.TheVariants.{Refused}
-use Rattle.filing.specs.Answers.{admission_of, answer_to, rows_to, AdmissionFits, filed}
+use Rattle.reading.specs.Admission.{Admission}
+use Rattle.reading.specs.Admission.{Admitted, Refused}
+use Rattle.filing.specs.Answers.{admission_of, AdmissionFits, filed}
 
 -- ---- the sums of an accepted book fit the rows
 
@@ -55,18 +61,27 @@ admission_fits ws rows entries h a q = rw q (go (admission ws entries) refl)
 
 -- ---- the filing
 
-pub filed_short : (ws : List ℕ) (rows : List ℤ) (register : List Entry) → length rows < 22 → filed (Refused 1 0) rows register ≡ filing ws rows register
+pub filed_short : (ws : List ℕ) (rows : List ℤ) (register : List Entry) → length rows < 22 → filed (Err (record { cause = RowsShort; place = 0 })) rows register ≡ filing ws rows register
 unfolding filing outcome_of
 filed_short ws rows register h = simp (lt-ltb (length rows) 22 h)
 
-pub filed_whole : (ws : List ℕ) (rows rows' : List ℤ) (register register' : List Entry) → 22 ≤ length rows
-    → (a : Admission) → a ≡ admission_of (head_of ws).bands (admission ws (length register)) → register' ≡ register_after (head_of ws) (admission ws (length register)) register
-    → (r : Answer) → r ≡ answer_to (head_of ws) a → rows' ≡ rows_to (head_of ws) a rows
-    → filed r rows' register' ≡ filing ws rows register
-unfolding filing outcome_of
-filed_whole ws rows rows' register register' h a aq gq r rq wq = simp (le-ltb (length rows) 22 h) (rw (gq, rq, wq, aq) (go (admission ws (length register))))
-  where
-    go : (o : Outcome) → filed (answer_to (head_of ws) (admission_of (head_of ws).bands o)) (rows_to (head_of ws) (admission_of (head_of ws).bands o) rows) (register_after (head_of ws) o register) ≡ filing_of (head_of ws) o rows register
-    go (early number) = refl
-    go (refused number place) = refl
-    go (accepted items left) = refl
+module _ (ws : List ℕ) (rows : List ℤ) (register after : List Entry) (h : 22 ≤ length rows) (gq : after ≡ register_after (head_of ws) (admission ws (length register)) register) where
+  pub filed_refused : (r : Refusal) → Refused (cause_number r.cause) r.place ≡ admission_of (head_of ws).bands (admission ws (length register)) → filed (Err r) rows after ≡ filing ws rows register
+  unfolding filing outcome_of
+  filed_refused r q = simp (le-ltb (length rows) 22 h) (rw gq (go (admission ws (length register)) q))
+    where
+      go : (o : Outcome) → ◌≡◌ {A = Admission} (Refused (cause_number r.cause) r.place) (admission_of (head_of ws).bands o) → filed (Err r) rows (register_after (head_of ws) o register) ≡ filing_of (head_of ws) o rows register
+      go (early number) e = let x : cause_number r.cause ≡ number = cc in let y : r.place ≡ 0 = cc in rw (x, y) refl
+      go (refused number place) e = let x : cause_number r.cause ≡ number = cc in let y : r.place ≡ place = cc in rw (x, y) refl
+      go (accepted items left) e = cc
+
+  pub filed_accepted : (s : Sums) → Admitted s ≡ admission_of (head_of ws).bands (admission ws (length register)) → (v : Verdict) (rows' : List ℤ)
+      → verdict_number v ≡ verdict_of (tier1_of (head_of ws).gain (head_of ws).loss) (exposure_row s) → rows' ≡ rows_of s (head_of ws).gain (head_of ws).loss ++ drop 22 rows → filed (Ok v) rows' after ≡ filing ws rows register
+  unfolding filing outcome_of
+  filed_accepted s q v rows' vq wq = simp (le-ltb (length rows) 22 h) (rw (gq, wq, vq) (go (admission ws (length register)) q))
+    where
+      go : (o : Outcome) → ◌≡◌ {A = Admission} (Admitted s) (admission_of (head_of ws).bands o)
+          → record { number = 0; place = 0; verdict = verdict_of (tier1_of (head_of ws).gain (head_of ws).loss) (exposure_row s); rows = rows_of s (head_of ws).gain (head_of ws).loss ++ drop 22 rows; register = register_after (head_of ws) o register } ≡ filing_of (head_of ws) o rows register
+      go (early number) e = cc
+      go (refused number place) e = cc
+      go (accepted items left) e = let x : s ≡ sums_of (head_of ws).bands items = cc in rw x refl

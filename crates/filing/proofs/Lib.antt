@@ -1,5 +1,3 @@
-pub mod EarlyLaws
 pub mod Loads
 pub mod StageLaws
 pub mod FilingLaws
-pub mod CaseLaws

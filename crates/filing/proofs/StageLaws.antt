@@ -10,6 +10,10 @@ use lib.ListN.{length, drop, replicate, length-set}
 use lib.Seq.{drop_at}
 use Rattle.rules.specs.declared.Draw.{Draw}
 use Rattle.rules.specs.declared.Entry.{Entry}
+use Rattle.rules.specs.declared.causes.Cause.{Cause}
+use Rattle.rules.specs.declared.causes.Refusal.{Refusal}
+use Rattle.rules.specs.Numbers.{cause_number}
+use Rattle.rules.proofs.Numbers.{cause_some}
 use Rattle.rules.specs.Book.{Head, Placed}
 use Rattle.rules.specs.Run.{Run}
 use Rattle.rules.specs.Read.{first_record, head_faulty, date_faulty, head_of, items_of}
@@ -19,9 +23,9 @@ use Rattle.rules.specs.Filing.{Outcome, early, refused, accepted, judged, record
 use Rattle.laws.proofs.GoodHead.{good_head}
 use Rattle.laws.proofs.Settling.{settle_one, settle_none}
 use Rattle.records.specs.Readable.{Readable}
-use Rattle.reading.specs.declared.Admission.{Admission}
-use Rattle.reading.specs.declared.Admission.TheVariants.{Admitted, Refused}
-use Rattle.reading.specs.Steps.{reading_of}
+use Rattle.reading.specs.Admission.{Admission}
+use Rattle.reading.specs.Admission.{Admitted, Refused}
+use Rattle.reading.specs.Steps.{reading_of, refused_by}
 use Rattle.reading.specs.Ahead.{Ahead, records_ahead}
 use Rattle.register.specs.Loading.{loaded_from}
 use Rattle.register.specs.Draws.{first_fault, left_by, reading_after, left_after}
@@ -31,9 +35,9 @@ use Rattle.filing.proofs.Loads.{records_are}
 
 -- ---- before the records
 
-pub refused_early : (ws : List ℕ) (entries r : ℕ) → r ≡ early_number ws entries → (r ≡ 0 → ⊥) → admission ws entries ≡ early r
+pub refused_early : (ws : List ℕ) (entries : ℕ) (cause : Cause) → cause_number cause ≡ early_number ws entries → admission ws entries ≡ early (cause_number cause)
 unfolding early_number admission
-refused_early ws entries r q n = rw q (go (ltb (2 ^ 20) (length ws)) (head_faulty ws) (date_faulty ws) (ltb entries (head_of ws).protections) (λ z. n (q ∙ z)))
+refused_early ws entries cause q = rw q (go (ltb (2 ^ 20) (length ws)) (head_faulty ws) (date_faulty ws) (ltb entries (head_of ws).protections) (λ z. cause_some cause (q ∙ z)))
   where
     go : (a b d c : Bool) → (◌≡◌ {A = ℕ} (cond a 2 (cond b 3 (cond d 16 (cond c 4 0)))) 0 → ⊥)
         → cond a (early 2) (cond b (early 3) (cond d (early 16) (cond c (early 4) (records_outcome ws)))) ≡ early (cond a 2 (cond b 3 (cond d 16 (cond c 4 0))))
@@ -43,6 +47,11 @@ refused_early ws entries r q n = rw q (go (ltb (2 ^ 20) (length ws)) (head_fault
     go false false false true h = refl
     go false false false false h = absurd (h refl)
 
+-- such a refusal, at place 0
+pub refused_first : (ws : List ℕ) (ys : List Entry) (r : Refusal) → cause_number r.cause ≡ early_number ws (length ys) → r.place ≡ 0
+    → (refused_by r ≡ admission_of (head_of ws).bands (admission ws (length ys))) × (ys ≡ register_after (head_of ws) (admission ws (length ys)) ys)
+refused_first ws ys r q z = rw (refused_early ws (length ys) r.cause q, z) (refl, refl)
+
 -- what is known where the records are looked at
 pub record Looked (ws : List ℕ) (entries : ℕ) : Type 0 where
   pub readable : Readable first_record ws
@@ -50,9 +59,9 @@ pub record Looked (ws : List ℕ) (entries : ℕ) : Type 0 where
   pub room : (head_of ws).protections ≤ entries
   pub outcome : admission ws entries ≡ records_outcome ws
 
-pub looked_at_lem : (ws : List ℕ) (entries r : ℕ) → r ≡ early_number ws entries → r ≡ 0 → Looked ws entries
+pub looked_at_lem : (ws : List ℕ) (entries : ℕ) → 0 ≡ early_number ws entries → Looked ws entries
 unfolding early_number admission
-looked_at_lem ws entries r q z = go (ltb (2 ^ 20) (length ws)) refl (head_faulty ws) refl (date_faulty ws) refl (ltb entries (head_of ws).protections) refl (sym q ∙ z)
+looked_at_lem ws entries q = go (ltb (2 ^ 20) (length ws)) refl (head_faulty ws) refl (date_faulty ws) refl (ltb entries (head_of ws).protections) refl (sym q)
   where
     go : (a : Bool) → ltb (2 ^ 20) (length ws) ≡ a → (b : Bool) → head_faulty ws ≡ b → (d : Bool) → date_faulty ws ≡ d → (c : Bool) → ltb entries (head_of ws).protections ≡ c
         → ◌≡◌ {A = ℕ} (cond a 2 (cond b 3 (cond d 16 (cond c 4 0)))) 0 → Looked ws entries

@@ -1,33 +1,32 @@
 -- Document 01, "Where an answer is an enum, the promises use a definition": the number, place and verdict of each case; and the stages of
 -- a filing as the code has them. Assumes nothing.
-use Rattle.std.specs.Prelude.{ℕ, ◌^◌, Bool, true, false, cond, List, ◌++◌, ltb, ℤ, length, drop}
-use Rattle.rules.specs.Book.{Head}
+use Rattle.std.specs.Prelude.{ℕ, ◌^◌, Bool, true, false, cond, List, Result, Ok, Err, ltb, ℤ, length}
 use Rattle.rules.specs.declared.Bands.{Bands}
 use Rattle.rules.specs.declared.Entry.{Entry}
+use Rattle.rules.specs.declared.causes.Refusal.{Refusal}
+use Rattle.rules.specs.declared.verdicts.Verdict.{Verdict}
+use Rattle.rules.specs.Numbers.{cause_number, verdict_number}
 use Rattle.rules.specs.Read.{head_faulty, date_faulty, head_of}
-use Rattle.rules.specs.Ratio.{tier1_of, verdict_of}
-use Rattle.rules.specs.Rows.{sums_of, exposure_row, rows_of}
+use Rattle.rules.specs.Rows.{sums_of}
 use Rattle.rules.specs.Filing.{Outcome, early, refused, accepted, Filing}
-use Rattle.reading.specs.declared.Admission.{Admission}
-use Rattle.reading.specs.declared.Admission.TheVariants.{Admitted}
-use Rattle.reading.specs.declared.Admission.TheVariants as admission
+use Rattle.reading.specs.Admission.{Admission}
+use Rattle.reading.specs.Admission.{Admitted}
+use Rattle.reading.specs.Admission as admission
 use Rattle.template.specs.Sections.{SumsFit}
-use Rattle.filing.specs.declared.Answer.{Answer}
-use Rattle.filing.specs.declared.Answer.TheVariants.{Refused, Accepted}
 
 -- ---- an answer: "Accepted: number 0, place 0 and the verdict (3 on refusal)"
 
-abbrev pub number_in : Answer → ℕ
-number_in (Refused number place) = number
-number_in (Accepted verdict) = 0
+abbrev pub number_in : Result Verdict Refusal → ℕ
+number_in (Ok verdict) = 0
+number_in (Err r) = cause_number r.cause
 
-abbrev pub place_in : Answer → ℕ
-place_in (Refused number place) = place
-place_in (Accepted verdict) = 0
+abbrev pub place_in : Result Verdict Refusal → ℕ
+place_in (Ok verdict) = 0
+place_in (Err r) = r.place
 
-abbrev pub verdict_of_answer : Answer → ℕ
-verdict_of_answer (Refused number place) = 3
-verdict_of_answer (Accepted verdict) = verdict
+abbrev pub verdict_of_answer : Result Verdict Refusal → ℕ
+verdict_of_answer (Ok verdict) = verdict_number verdict
+verdict_of_answer (Err r) = 3
 
 -- ---- the stages
 
@@ -50,15 +49,6 @@ admission_of bands (early number) = admission.Refused number 0
 admission_of bands (refused number place) = admission.Refused number place
 admission_of bands (accepted items left) = Admitted (sums_of bands items)
 
--- what is answered of it, and the rows
-abbrev pub answer_to : Head → Admission → Answer
-answer_to head (admission.Refused number place) = Refused number place
-answer_to head (Admitted s) = Accepted (verdict_of (tier1_of head.gain head.loss) (exposure_row s))
-
-abbrev pub rows_to : Head → Admission → List ℤ → List ℤ
-rows_to head (admission.Refused number place) rows = rows
-rows_to head (Admitted s) rows = rows_of s head.gain head.loss ++ drop 22 rows
-
 -- sums that the rows can hold
 abbrev pub AdmissionFits : Admission → Type 0
 AdmissionFits (admission.Refused number place) = Unit {0}
@@ -66,7 +56,7 @@ AdmissionFits (Admitted s) = SumsFit s
 
 -- ---- the filing, as the code has it: its answer, and the rows and the register at exit
 
-abbrev pub filed : Answer → List ℤ → List Entry → Filing
+abbrev pub filed : Result Verdict Refusal → List ℤ → List Entry → Filing
 filed r rows register = record { number = number_in r; place = place_in r; verdict = verdict_of_answer r; rows = rows; register = register }
 
 -- what a caller who lends no register sees of it

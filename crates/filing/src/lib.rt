@@ -6,11 +6,3 @@ pub mod alone;
 mod early;
 pub mod file;
 mod report;
-mod stages;
-
-// Refused with a number at a place, or accepted with a verdict.
-#[derive(Clone, Copy)]
-pub enum Answer {
-    Refused { number: u32, place: usize },
-    Accepted(u32),
-}

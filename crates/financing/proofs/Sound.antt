@@ -1,5 +1,5 @@
 -- A financing trade without a fault, told by few tests of its words. Assumes nothing.
-use Prim.Native.Nat.{ℕ, ◌+◌, ◌-◌, ◌*◌, ◌/◌, ◌%◌, ◌^◌, ◌≤◌, ◌<◌}
+use Prim.Native.Nat.{ℕ, ◌+◌, ◌/◌, ◌%◌, ◌^◌, ◌≤◌, ◌<◌}
 use mathlib.Core.Path.{◌≡◌, refl, ◌∙◌, ap₂}
 use mathlib.Core.Bool.{Bool, true, false, not, ◌&&◌, ◌||◌, cond, and-false}
 use mathlib.Core.List.{List}
@@ -11,17 +11,14 @@ use Rattle.rules.specs.Word.{word, kind_of, bit_of, payload_of, size_of, faulty_
 use Rattle.rules.specs.Faults.{cause, financing_trade_fault}
 use Rattle.rules.specs.Read.{lacks, financing_trade_at}
 use Rattle.rules.proofs.Lists.{and_left, and_right, or_left, or_right}
-use Rattle.words.proofs.Both.{as_both, head_is, plain_is}
+use Rattle.words.proofs.Both.{as_both, plain_is}
 use Rattle.records.specs.Step.{plain_amount}
-use Rattle.records.proofs.Words.{lacking_short}
+use Rattle.records.proofs.Words.{none_there}
 use Rattle.financing.specs.declared.read.FinancingTradeWords.{FinancingTradeWords}
 use Rattle.financing.specs.Words.{financing_trade_words, financing_trade_of, odds_in, financing_trade_fault_of}
 use Rattle.financing.specs.Good.{own_most, own_within, good_days, good_trade, sound_trade, PlainTrade, plain_trade_of}
 
 -- ---- the tests one by one
-
-pub trade_head : (w : ℕ) → eqb (w / 2 ^ 1) 1207959552 ≡ (eqb (kind_of w) 9 && not (leb 2 (payload_of w)))
-trade_head w = head_is w 9 2 1207959552 (λ e. (omega arith, omega arith)) (λ k l. omega arith)
 
 days_are : (last d : ℕ) → good_days last d ≡ (eqb (kind_of d) 0 && not (faulty_days d) && not (ltb (size_of d) last))
 days_are last d =
@@ -35,11 +32,6 @@ days_are last d =
     let most = ltb-false 65535 (d % 2 ^ 28) (not-true _ (and_right (eqb (kind_of d) 0) (not (faulty_days d)) a)) in
     let least = ltb-false (d % 2 ^ 27) last (not-true _ b) in
     simp (le-leb d 65535 (omega arith), le-leb last d (omega arith)))
-
--- the mark as a number, multiplied
-pub most_is : (agent : Bool) (mark : ℕ) → mark ≡ cond agent 1 0 → (2 ^ 27 - 1) * (1 - mark) ≡ own_most agent
-most_is true mark e = omega arith
-most_is false mark e = omega arith
 
 -- the four amounts that the set has a bound for
 abbrev own_plain : FinancingTradeWords → Bool
@@ -142,32 +134,11 @@ trade_by_words agent last t =
     go true false true false true true false true false true false true false false true false true false = refl
     go true false true false false true false true false true false true false false true false true false = refl
 
--- ---- the tests one after the other: the first that fails ends them
-
-module _ (most last : ℕ) (t : FinancingTradeWords) (h : Bool) (hq : h ≡ (eqb (kind_of t.head) 9 && not (leb 2 (payload_of t.head)))) where
-  pub no_head : not h ≡ true → false ≡ good_trade most last t
-  unfolding good_trade
-  no_head e = simp (← hq, not-true h e)
-
-  module _ (e : not h ≡ false) (d : Bool) (dq : d ≡ good_days last t.days) where
-    pub no_days : not d ≡ true → false ≡ good_trade most last t
-    unfolding good_trade
-    no_days f = simp (← hq, not-false h e, ← dq, not-true d f)
-
-    module _ (f : not d ≡ false) (o : Bool) (oq : o ≡ own_within most t) where
-      pub no_own : not o ≡ true → false ≡ good_trade most last t
-      unfolding good_trade
-      no_own g = simp (← hq, not-false h e, ← dq, not-false d f, ← oq, not-true o g)
-
-      pub by_values : not o ≡ false → (r v w : Bool) → v ≡ plain_amount t.lent → w ≡ plain_amount t.received → r ≡ (v && w) → r ≡ good_trade most last t
-      unfolding good_trade
-      by_values g r v w vq wq q = q ∙ simp (vq, wq, ← hq, not-false h e, ← dq, not-false d f, ← oq, not-false o g)
-
 -- ---- a trade without a fault, at a place
 
 module _ (ws : List ℕ) (at last : ℕ) where
   pub no_trade : length ws ≤ at + 7 → false ≡ sound_trade last ws at
-  no_trade h = simp (← (lacking_short ws at 7 7 (omega arith) h), and-false)
+  no_trade h = none_there 9 7 ws at _ (omega arith) h
 
   pub trade_is : at + 7 < length ws → good_trade (own_most (bit_of 1 (word ws 0))) last (financing_trade_words ws at) ≡ sound_trade last ws at
   unfolding lacks

@@ -1,5 +1,5 @@
 -- The loop over the trades of a financing set: what holds at its head, and what each way out of it returns. Assumes nothing.
-use Prim.Native.Nat.{ℕ, zero, suc, ◌+◌, ◌-◌, ◌*◌, ◌^◌, ◌≤◌, ◌<◌, min}
+use Prim.Native.Nat.{ℕ, zero, suc, ◌+◌, ◌*◌, ◌^◌, ◌≤◌, ◌<◌, min}
 use mathlib.Core.Path.{◌≡◌, refl, sym, ◌∙◌, ap}
 use mathlib.Core.Bool.{Bool, true, false, cond}
 use mathlib.Core.List.{List}
@@ -12,17 +12,16 @@ use Rattle.rules.specs.Book.{FinancingTrade}
 use Rattle.rules.specs.Run.{bad, some, Run, with_one}
 use Rattle.rules.specs.Read.{lacks, stands, last_days_at, financing_trade_at, financing_trade_turn, financing_member_turn}
 use Rattle.rules.proofs.Lists.{and_left, and_right}
-use Rattle.rules.proofs.Along.{Along, along_start, along_over, along_bad, along_one}
+use Rattle.rules.proofs.Along.{Along, along_over, along_bad, along_one}
 use Rattle.records.specs.Cause.{record_cause}
 use Rattle.records.proofs.Words.{record_faulty, record_good}
 use Rattle.laws.proofs.Records.{stands_is, amounts_at_lem, lacks_room}
 use Rattle.financing.specs.declared.tally.FinancingTally.{FinancingTally}
-use Rattle.financing.specs.declared.trades.Weighed.TheVariants.{Whole, Refused}
-use Rattle.financing.specs.Weighing.{no_tally, settled, tallied, tally_from, weighed_to, weighed_of, trades_of, tally_sum, TallyRoomy}
+use Rattle.financing.specs.Weighing.{whole, refused, no_tally, settled, tallied, tally_from, weighed_to, weighed_of, trades_of, tally_sum, TallyRoomy}
 use Rattle.financing.specs.declared.read.FinancingTradeWords.{FinancingTradeWords}
 use Rattle.financing.specs.Words.{financing_trade_words, financing_trade_of, financing_trade_fault_of, financing_trade_cause}
 use Rattle.financing.specs.Good.{sound_trade, PlainTrade}
-use Rattle.financing.proofs.Order.{days_first, days_behind}
+use Rattle.financing.proofs.Order.{days_behind}
 use Rattle.financing.proofs.Sound.{sound_plain}
 
 -- the words at a place are the record there
@@ -36,19 +35,12 @@ pub record AtTrade (ws : List ℕ) (t : FinancingTally) (at : ℕ) : Type 0 wher
   pub day : t.day ≡ last_days_at ws at
   pub small : tally_sum t ≤ 2 ^ 27 * at
 
-pub at_first : (ws : List ℕ) (t : FinancingTally) → 0 < length ws → kind_of (word ws 0) ≡ 8 → t ≡ no_tally → AtTrade ws t 1
-at_first ws t h k e = rw e (record {
-  along = along_start (length ws) (financing_member_turn ws) weighed_of _ no_tally 1 h refl;
-  day = sym (days_first ws k);
-  small = omega arith;
-})
-
 module _ (ws : List ℕ) (t : FinancingTally) (at : ℕ) (i : AtTrade ws t at) where
   pub tally_roomy : length ws ≤ 2 ^ 20 → TallyRoomy t
   tally_roomy h = omega (arith, i.along.within)
 
   -- no trade stands here
-  pub trades_over : (r : Bool) → r ≡ stands 9 ws at → r ≡ false → Whole t at ≡ weighed_of no_tally (trades_of ws)
+  pub trades_over : (r : Bool) → r ≡ stands 9 ws at → r ≡ false → whole t at ≡ weighed_of no_tally (trades_of ws)
   unfolding financing_member_turn tally_from
   trades_over r rq e = along_over (length ws) (financing_member_turn ws) weighed_of _ t at i.along (simp (← rq, e))
 
@@ -78,7 +70,7 @@ module _ (ws : List ℕ) (t : FinancingTally) (at : ℕ) (i : AtTrade ws t at) w
       fault_is : f ≡ record_cause 7 ws at fault
       fault_is = fq ∙ ap (λ (x : Bool). financing_trade_cause x t.day ws at) aq ∙ cause_is
 
-      pub trade_stop : Refused f at ≡ weighed_of no_tally (trades_of ws)
+      pub trade_stop : refused f at ≡ weighed_of no_tally (trades_of ws)
       unfolding tally_from financing_trade_turn fault
       trade_stop =
           go f n ∙ along_bad (length ws) (financing_member_turn ws) weighed_of _ t at i.along f at
@@ -90,7 +82,7 @@ module _ (ws : List ℕ) (t : FinancingTally) (at : ℕ) (i : AtTrade ws t at) w
           n : f ≡ 0 → ⊥
           n z = eqb-false _ _ (rw s at (sym gq ∙ b)) (cause_is ∙ sym fault_is ∙ z)
 
-          go : (x : ℕ) → (x ≡ 0 → ⊥) → Refused x at ≡ weighed_to t x at
+          go : (x : ℕ) → (x ≡ 0 → ⊥) → refused x at ≡ weighed_to t x at
           go zero m = absurd (m refl)
           go (suc x) m = refl
 
@@ -110,9 +102,6 @@ module _ (ws : List ℕ) (t : FinancingTally) (at : ℕ) (i : AtTrade ws t at) w
 
       pub trade_plain : (w : FinancingTradeWords) → w ≡ financing_trade_words ws at → PlainTrade w
       trade_plain w wq = rw wq (sound_plain ws at t.day (omega (arith, trade_room)) (sym gq ∙ z))
-
-      pub trade_less : length ws - (at + 8) < length ws - at
-      trade_less = omega (arith, trade_room)
 
       module _ (w : FinancingTradeWords) (wq : w ≡ financing_trade_words ws at) (u : FinancingTally) (uq : u ≡ tallied t (financing_trade_of w)) where
         q : u ≡ tallied t (financing_trade_at ws at)

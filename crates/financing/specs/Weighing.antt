@@ -1,14 +1,14 @@
 -- The weighing of a financing set: a tally that each trade is added to, and what the set brings by its tally.
 -- Assumes nothing.
-use Rattle.std.specs.Prelude.{ℕ, zero, suc, ◌+◌, ◌-◌, ◌*◌, ◌^◌, ◌≤◌, min, Bool, cond, List, [], ◌∷◌, eqb, length}
+use Rattle.std.specs.Prelude.{ℕ, zero, suc, ◌+◌, ◌-◌, ◌*◌, ◌^◌, ◌≤◌, min, Bool, cond, List, [], ◌∷◌, eqb, length, Result, Ok, Err}
+use Rattle.rules.specs.declared.causes.Refusal.{Refusal}
 use Rattle.rules.specs.declared.Sums.{Sums}
+use Rattle.rules.specs.Numbers.{cause_number}
 use Rattle.rules.specs.Word.{bit_of}
 use Rattle.rules.specs.Book.{FinancingTrade}
 use Rattle.rules.specs.Run.{Run, run_from}
 use Rattle.rules.specs.Read.{financing_member_turn}
 use Rattle.financing.specs.declared.tally.FinancingTally.{FinancingTally}
-use Rattle.financing.specs.declared.trades.Weighed.{Weighed}
-use Rattle.financing.specs.declared.trades.Weighed.TheVariants.{Whole, Refused}
 
 -- ---- the tally
 
@@ -58,9 +58,19 @@ excess_in netting t = cond netting (t.lent - t.received) t.excess
 
 -- ---- the trades of a set
 
+-- their tally and the place behind them, or the number and the place of the first fault
+pub data Weighed : Type 0 where
+  whole : FinancingTally → (place : ℕ) → Weighed
+  refused : (number place : ℕ) → Weighed
+
 abbrev pub weighed_to : FinancingTally → (number place : ℕ) → Weighed
-weighed_to t zero place = Whole t place
-weighed_to t (suc number) place = Refused (suc number) place
+weighed_to t zero place = whole t place
+weighed_to t (suc number) place = refused (suc number) place
+
+-- as the code answers it
+abbrev pub weighed_in : Result (FinancingTally × ℕ) Refusal → Weighed
+weighed_in (Ok x) = whole x.0 x.1
+weighed_in (Err r) = refused (cause_number r.cause) r.place
 
 abbrev pub weighed_of : FinancingTally → Run FinancingTrade → Weighed
 weighed_of t r = weighed_to (tally_from t r.records) r.number r.place

@@ -2,12 +2,14 @@
 -- stand beside one. Assumes nothing.
 use Rattle.std.specs.Prelude.{ℕ, ◌+◌, ◌*◌, ◌%◌, List, [], ◌∷◌}
 use Rattle.rules.specs.Filing.{Filing}
-use Rattle.filing.specs.declared.Answer.{Answer}
+use Rattle.std.specs.Prelude.{Result}
+use Rattle.rules.specs.declared.causes.Refusal.{Refusal}
+use Rattle.rules.specs.declared.verdicts.Verdict.{Verdict}
 use Rattle.filing.specs.Answers.{number_in, place_in, verdict_of_answer}
-use Rattle.sets.specs.declared.Shown.{Shown}
-use Rattle.settings.specs.declared.Counted.{Counted}
+use Rattle.sets.specs.Sets.{Shown}
+use Rattle.settings.specs.Settings.{Counted}
 
-abbrev pub packed_answer : Answer → ℕ
+abbrev pub packed_answer : Result Verdict Refusal → ℕ
 packed_answer r = number_in r + 256 * verdict_of_answer r + 65536 * (place_in r % 4294967296)
 
 abbrev pub packed : Filing → ℕ

@@ -7,11 +7,10 @@ ghost use Rattle.settings.specs.Settings.{counting};
 ghost use Rattle.leverage.specs.Packed.{packed, packed_shown, counts_in, packed_counted};
 
 use crate::counts::put_counts;
-use crate::packed::pack;
-use crate::stretch::put;
-use filing::admit::admit;
+use crate::packed::{pack, without_verdict};
 use filing::file::file;
 use rules::Entry;
+use sets::show::set_of;
 use settings::count::count;
 
 // As `file`, with the answer packed.
@@ -37,8 +36,16 @@ pub extern "C" fn leverage_show<'a>(
         × ((result ≡ packed_shown (showing book.now ordinal (length register.old)))
         × (register.new ≡ register_after (head_of book.now) (admission book.now (length register.old)) register.old)) }
 {
-    let a = admit(book, register);
-    put(book, ordinal, a, stretch)
+    match set_of(book, ordinal, register) {
+        Ok(words) => {
+            *stretch = words;
+            without_verdict(0, 0)
+        }
+        Err(r) => {
+            *stretch = &book[..0];
+            without_verdict(u32::from(r.cause), r.place)
+        }
+    }
 }
 
 // As `count` of crate settings, with number and place packed and the three counts written where the caller has lent room for them.

@@ -5,4 +5,3 @@
 mod counts;
 pub mod export;
 mod packed;
-mod stretch;

@@ -11,7 +11,9 @@ use Rattle.rules.specs.Read.{head_of}
 use Rattle.rules.specs.Ratio.{verdict_of}
 use Rattle.rules.specs.Filing.{Outcome, number_of, verdict_in, outcome_of, filing}
 use Rattle.laws.proofs.Accepted.{Numbered, numbered}
-use Rattle.filing.specs.declared.Answer.TheVariants.{Refused, Accepted}
+use Rattle.rules.specs.declared.causes.Refusal.{Refusal}
+use Rattle.rules.specs.declared.verdicts.Verdict.{Verdict}
+use Rattle.rules.specs.Numbers.{cause_number, verdict_number}
 use Rattle.filing.specs.Answers.{Seen, filed, seen}
 use Rattle.streams.specs.Words.{word_at}
 use Rattle.leverage_print.specs.Printed.{book_text, own_bytes, printed, refused_line, row_line, row_lines, text_of, verdict_line, words_of}
@@ -50,18 +52,19 @@ refusal_numbered ws rows register = go (outcome_of ws (length rows) (length regi
     go o Numbered.acceptances v z = not_three _ _ v
 
 module _ (ws : List ℕ) (rows after : List ℤ) (register left : List Entry) where
-  pub refused_text : (number place : ℕ) → seen (filed (Refused number place) after left) ≡ seen (filing ws rows register)
-      → refused_line number place ≡ text_of (seen (filing ws rows register))
-  refused_text number place e =
+  pub refused_text : (r : Refusal) → seen (filed (Err r) after left) ≡ seen (filing ws rows register)
+      → refused_line (cause_number r.cause) r.place ≡ text_of (seen (filing ws rows register))
+  refused_text r e =
+      let number = cause_number r.cause in
       let number_is = ap (λ (s : Seen). s.number) e in
       let verdict_is = ap (λ (s : Seen). s.verdict) e in
       let some : number ≡ 0 → ⊥ = λ z. refusal_numbered ws rows register verdict_is (sym number_is ∙ z) in
-      let texts : text_of (seen (filed (Refused number place) after left)) ≡ text_of (seen (filing ws rows register)) = ap text_of e in
+      let texts : text_of (seen (filed (Err r) after left)) ≡ text_of (seen (filing ws rows register)) = ap text_of e in
       rw (ne_eqb number 0 some) at texts
 
-  pub accepted_text : (verdict : ℕ) → seen (filed (Accepted verdict) after left) ≡ seen (filing ws rows register)
-      → row_lines after 22 ++ verdict_line verdict ≡ text_of (seen (filing ws rows register))
-  accepted_text verdict e = ap text_of e
+  pub accepted_text : (v : Verdict) → seen (filed (Ok v) after left) ≡ seen (filing ws rows register)
+      → row_lines after 22 ++ verdict_line (verdict_number v) ≡ text_of (seen (filing ws rows register))
+  accepted_text v e = ap text_of e
 
 -- ---- the input and its text
 

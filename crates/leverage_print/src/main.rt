@@ -3,14 +3,16 @@
 
 ghost use Rattle.std.specs.Prelude.{◌≡◌, ◌%◌, ◌≤◌, IfSome, OnOk, length};
 ghost use Rattle.std.specs.Io.KnownBytes.{Appends};
+ghost use Rattle.rules.specs.Numbers.{cause_number, verdict_number};
 ghost use Rattle.leverage_print.specs.Printed.{book_text, own_bytes, printed, refused_line, row_line, row_lines, verdict_line};
 
-use filing::Answer;
 use filing::alone::file_alone;
+use rules::causes::Refusal;
 use rules::limits;
+use rules::verdicts::Verdict;
 use std::io;
 use std::io::{Read, Write};
-use streams::{end_line, gather, print_signed, read_full};
+use streams::{gather, read_full};
 
 // "holds 16,384 words": those of the longest book that it takes
 const OWN_WORDS: usize = 16384;
@@ -20,9 +22,7 @@ const OWN_BYTES: usize = 4 * OWN_WORDS;
 fn print_row<W: Write>(out: &mut W, number: usize, value: i64) -> io::Result<()>
     ensures { OnOk result (Appends (W.contents out.old) (W.contents out.new) (row_line number value)) }
 {
-    write!(out, "{number} ")?;
-    print_signed(out, value)?;
-    end_line(out)
+    writeln!(out, "{number} {value}")
 }
 
 // "22 lines of row number, space, value"
@@ -35,14 +35,14 @@ fn print_rows<W: Write>(out: &mut W, rows: [i64; limits::ROWS]) -> io::Result<()
     Ok(())
 }
 
-fn print_refused<W: Write>(out: &mut W, number: u32, place: usize) -> io::Result<()>
-    ensures { OnOk result (Appends (W.contents out.old) (W.contents out.new) (refused_line number place)) }
+fn print_refusal<W: Write>(out: &mut W, refusal: Refusal) -> io::Result<()>
+    ensures { OnOk result (Appends (W.contents out.old) (W.contents out.new) (refused_line (cause_number refusal.cause) refusal.place)) }
 {
-    writeln!(out, "refused {number} at {place}")
+    writeln!(out, "{refusal}")
 }
 
-fn print_verdict<W: Write>(out: &mut W, verdict: u32) -> io::Result<()>
-    ensures { OnOk result (Appends (W.contents out.old) (W.contents out.new) (verdict_line verdict)) }
+fn print_verdict<W: Write>(out: &mut W, verdict: Verdict) -> io::Result<()>
+    ensures { OnOk result (Appends (W.contents out.old) (W.contents out.new) (verdict_line (verdict_number verdict))) }
 {
     writeln!(out, "verdict {verdict}")
 }
@@ -58,11 +58,11 @@ fn print_filed<W: Write>(out: &mut W, bytes: &[u8]) -> io::Result<()>
     gather(bytes, &mut words, n);
     let mut rows = [0i64; limits::ROWS];
     match file_alone(&words[..n], &mut rows) {
-        Answer::Refused { number, place } => print_refused(out, number, place),
-        Answer::Accepted(verdict) => {
+        Ok(verdict) => {
             print_rows(out, rows)?;
             print_verdict(out, verdict)
         }
+        Err(refusal) => print_refusal(out, refusal),
     }
 }
 

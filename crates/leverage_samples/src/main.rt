@@ -9,7 +9,7 @@ mod lines;
 mod sample;
 
 use rules::limits;
-use sample::file_next;
+use sample::{Buffers, file_next};
 use std::fs::File;
 use std::io;
 use std::io::{Read, Write};
@@ -18,12 +18,10 @@ use std::io::{Read, Write};
 fn file_each<R: Read, W: Write>(
     input: &mut R,
     out: &mut W,
-    bytes: &mut [u8],
-    words: &mut [u32],
-    rows: &mut [i64],
+    buffers: &mut Buffers,
 ) -> io::Result<u64> {
     for count in 0..100000 {
-        if !file_next(input, out, bytes, words, rows)? {
+        if !file_next(input, out, buffers)? {
             return Ok(count);
         }
     }
@@ -36,7 +34,12 @@ fn file_all<R: Read, W: Write>(input: &mut R, out: &mut W) -> io::Result<u64> {
     let mut words = [0u32; limits::BOOK_WORDS + 1];
     // two rows more than a filing writes
     let mut rows = [-1i64; limits::ROWS + 2];
-    file_each(input, out, &mut bytes, &mut words, &mut rows)
+    let mut buffers = Buffers {
+        bytes: &mut bytes,
+        words: &mut words,
+        rows: &mut rows,
+    };
+    file_each(input, out, &mut buffers)
 }
 
 fn print_all<R: Read, W: Write>(input: &mut R, out: &mut W) -> io::Result<()> {

@@ -13,16 +13,14 @@ use Rattle.rules.specs.Rows.{sums_of}
 use Rattle.rules.specs.Filing.{Outcome, early, refused, accepted, admission}
 use Rattle.laws.proofs.Accepted.{Numbered}
 use Rattle.laws.proofs.Records.{stands_is}
-use Rattle.reading.specs.declared.Admission.TheVariants.{Admitted}
+use Rattle.reading.specs.Admission.{Admitted}
 use Rattle.cuts.proofs.Cutting.{items_begin}
 use Rattle.cuts.proofs.ByKind as by_kind
-use Rattle.sets.specs.declared.Shown.{Shown}
-use Rattle.sets.specs.Sets.{showing}
+use Rattle.sets.specs.Sets.{Shown, showing}
 use Rattle.sets.specs.Search.{place_from, found_at}
 use Rattle.sets.proofs.SetLaws.{found_showing}
 use Rattle.sets.proofs.ClaimsHold.{told}
-use Rattle.settings.specs.declared.Counted.{Counted}
-use Rattle.settings.specs.Settings.{verdict_with, counts_of, counting}
+use Rattle.settings.specs.Settings.{Counted, verdict_with, counts_of, counting}
 use Rattle.settings.specs.Chosen.{IsAdmission, ChosenSet}
 use Rattle.settings.proofs.AnswerLaws.{Found, found}
 

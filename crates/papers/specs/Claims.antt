@@ -4,10 +4,8 @@ use Rattle.rules.specs.declared.Entry.{Entry}
 use Rattle.rules.specs.Word.{word, kind_of}
 use Rattle.rules.specs.Filing.{filing}
 use Rattle.other_marks.specs.Marked.{settings, book_with}
-use Rattle.sets.specs.declared.Shown.{Shown}
-use Rattle.sets.specs.Sets.{showing}
-use Rattle.settings.specs.declared.Counted.{Counted}
-use Rattle.settings.specs.Settings.{verdict_with, counts_of, turned_away, counting}
+use Rattle.sets.specs.Sets.{Shown, showing}
+use Rattle.settings.specs.Settings.{Counted, verdict_with, counts_of, turned_away, counting}
 
 module _ (ws : List ℕ) (ordinal : ℕ) (register : List Entry) where
   abbrev shown : Shown

@@ -3,8 +3,7 @@
 use Rattle.std.specs.Prelude.{ℕ, ◌+◌, ◌≤◌, ◌≡◌, List, length}
 use Rattle.rules.specs.declared.Entry.{Entry}
 use Rattle.rules.specs.TwoDesks.{MoreRecognised}
-use Rattle.settings.specs.declared.Counted.{Counted}
-use Rattle.settings.specs.Settings.{counting}
+use Rattle.settings.specs.Settings.{Counted, counting}
 
 -- With more marks set already, in any words of the book: the same refusal, or no fewer settings that lead to verdict 0 or 2, and no fewer that lead to
 -- verdict 2. (Fewer may lead to verdict 0: a setting that did may now leave no exposure.)

@@ -3,8 +3,7 @@ use Rattle.std.specs.Prelude.{ℕ, ◌+◌, ◌^◌, ◌≡◌, List, [], ◌∷
 use Rattle.rules.specs.Register.{blank}
 use Rattle.cuts.proofs.Written.{joined, book_of}
 use Rattle.cuts.proofs.SampleBooks.{head_word, an_asset, empty_set, a_set, empty_financing}
-use Rattle.settings.specs.declared.Counted.{Counted}
-use Rattle.settings.specs.Settings.{turned_away, counting}
+use Rattle.settings.specs.Settings.{Counted, turned_away, counting}
 
 -- ---- books
 

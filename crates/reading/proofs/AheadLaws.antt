@@ -19,7 +19,7 @@ use Rattle.laws.proofs.ItemBounds.{placed_weight, fine_item_turn}
 use Rattle.laws.proofs.ItemRows.{rows_at_most}
 use Rattle.records.specs.Sums.{plus, SumsRoomy}
 use Rattle.records.specs.Step.{plus_item}
-use Rattle.reading.specs.declared.Admission.TheVariants.{Admitted, Refused}
+use Rattle.reading.specs.Admission.{Admitted, Refused}
 use Rattle.reading.specs.Steps.{all_sums, SumsUpTo}
 use Rattle.reading.specs.Ahead.{ends_at, after, items_ahead, from_item}
 

@@ -1,7 +1,7 @@
 -- What is told where an item is due, by its kind: the causes of a head, and no item at all. Assumes nothing.
 use Prim.Native.Nat.{ℕ, ◌≤◌, ◌<◌}
-use mathlib.Core.Path.{◌≡◌, sym, ◌∙◌, ap}
-use mathlib.Core.Bool.{cond}
+use mathlib.Core.Path.{◌≡◌, refl, sym, ◌∙◌, ap}
+use mathlib.Core.Bool.{false, cond, true≢false}
 use mathlib.Core.List.{List}
 use native.Mathlib.Omega.{arith}
 use borrow.Author.Tests.{le-leb}
@@ -11,11 +11,11 @@ use Rattle.rules.specs.declared.Sums.{Sums}
 use Rattle.rules.specs.Word.{word, kind_of, amounts_of_kind}
 use Rattle.rules.specs.Book.{Item}
 use Rattle.rules.specs.Run.{Turn, bad}
-use Rattle.rules.specs.Read.{lacks, record_then, derivative_set_turn, item_of, item_turn}
-use Rattle.laws.proofs.Records.{amounts_at_lem}
+use Rattle.rules.specs.Read.{lacks, record_then, stands, derivative_set_turn, item_of, item_turn}
+use Rattle.laws.proofs.Records.{amounts_at_lem, stands_there}
 use Rattle.records.proofs.Words.{record_faulty}
 use Rattle.weighing.specs.Words.{set_cause}
-use Rattle.reading.specs.declared.Admission.TheVariants.{Refused}
+use Rattle.reading.specs.Admission.{Refused}
 use Rattle.reading.specs.Steps.{SumsUpTo}
 use Rattle.reading.specs.Ahead.{ends_at, from_item}
 use Rattle.reading.proofs.AheadLaws.{ahead_bad}
@@ -47,3 +47,11 @@ module _ (bands : Bands) (ws : List ℕ) (s : Sums) (at : ℕ) (f : SumsUpTo ws 
   no_item h k q two four eight ten end =
       let m : Met ws s at k = record { sums_up_to = f; here = h; kind = sym q } in
       halted bands m end 5 (λ z. omega arith) (of_no_kind (drop at ws) k (sym (kind_here m)) two four eight ten)
+
+  -- no record of a kind that is one
+  pub none_stands : at < length ws → stands 2 ws at ≡ false → stands 4 ws at ≡ false → stands 8 ws at ≡ false → stands 10 ws at ≡ false → stands 15 ws at ≡ false
+      → from_item bands ws s at ≡ ends_at (Refused 5 at)
+  none_stands h two four eight ten end = no_item h (kind_of (word ws at)) refl (other 2 two) (other 4 four) (other 8 eight) (other 10 ten) (other 15 end)
+    where
+      other : (k : ℕ) → stands k ws at ≡ false → kind_of (word ws at) ≡ k → ⊥
+      other k e z = true≢false (sym (stands_there ws at k _ h refl z) ∙ e)

@@ -19,13 +19,10 @@ use Rattle.rules.proofs.Runs.{FineTurn}
 use Rattle.laws.proofs.Records.{stands_is, head_word_lem}
 use Rattle.laws.proofs.MemberBounds.{per_word}
 use Rattle.laws.proofs.ItemBounds.{placed_weight, fine_item_turn}
-use Rattle.records.specs.declared.ItemStep.{ItemStep}
-use Rattle.records.specs.declared.ItemStep.TheVariants.{Next}
-use Rattle.records.specs.declared.ItemStep.TheVariants as item
-use Rattle.records.specs.Readable.{Readable}
 use Rattle.records.specs.Sums.{plus, item_sums}
-use Rattle.records.specs.Step.{item_step}
-use Rattle.reading.specs.declared.Admission.TheVariants.{Refused}
+use Rattle.records.specs.Step.{ItemStep, item_step}
+use Rattle.records.specs.Step as item
+use Rattle.reading.specs.Admission.{Refused}
 use Rattle.reading.specs.Steps.{SumsUpTo}
 use Rattle.reading.specs.Ahead.{ends_at, from_item}
 use Rattle.reading.proofs.AheadLaws.{ahead_bad, ahead_broken, Onward, onward}
@@ -50,11 +47,6 @@ pub met : {ws : List ℕ} {s : Sums} {at : ℕ} (k : ℕ) → SumsUpTo ws s at �
 met {ws = ws} {at = at} k f e = let h = stands_is k ws at e in record { sums_up_to = f; here = h.0; kind = h.1 }
 
 module _ {ws : List ℕ} {s : Sums} {at k : ℕ} (m : Met ws s at k) where
-  pub part_of : Readable 1 (part_at ws at)
-  part_of =
-      let n : length (part_at ws at) ≡ length ws - at = ap length (from_is ws at) ∙ length-drop at ws in
-      record { within = omega (arith, n, m.here); short = omega (arith, n, m.sums_up_to.readable.short) }
-
   pub kind_here : kind_of (word (drop at ws) 0) ≡ k
   kind_here = ap kind_of (head_word_lem ws at) ∙ m.kind
 
@@ -127,7 +119,7 @@ module _ (bands : Bands) {ws : List ℕ} {s : Sums} {at k : ℕ} (m : Met ws s a
   fine : FineTurn (length ws) per_word (placed_weight bands) at (placed at (turn (drop at ws)))
   fine = rw here at (fine_item_turn bands ws at m.sums_up_to.readable.within)
 
-  next_of : (t : Turn Item) → Plain t → item_turn ws at ≡ placed at t → (sums : Sums) (next : ℕ) → item_step bands t ≡ Next sums next → Onward bands ws s at (plus s sums) (at + next)
+  next_of : (t : Turn Item) → Plain t → item_turn ws at ≡ placed at t → (sums : Sums) (next : ℕ) → item_step bands t ≡ item.next sums next → Onward bands ws s at (plus s sums) (at + next)
   next_of t bads h sums next e = let z : ◌≡◌ {A = ℕ} 0 1 = cc in absurd (omega arith)
   next_of t (somes {i} {number = zero} {place} d) h sums next e =
       let a : item_sums bands i ≡ sums = cc in
@@ -135,10 +127,10 @@ module _ (bands : Bands) {ws : List ℕ} {s : Sums} {at k : ℕ} (m : Met ws s a
       rw (← a, ← b) (onward bands ws s at m.sums_up_to _ (at + place) h (d at))
   next_of t (somes {number = suc n} d) h sums next e = let z : ◌≡◌ {A = ℕ} 0 1 = cc in absurd (omega arith)
 
-  pub item_next : (sums : Sums) (next : ℕ) → r ≡ Next sums next → Onward bands ws s at (plus s sums) (at + next)
+  pub item_next : (sums : Sums) (next : ℕ) → r ≡ item.next sums next → Onward bands ws s at (plus s sums) (at + next)
   item_next sums next e = next_of (turn (drop at ws)) plain here sums next (sym step ∙ e)
 
-  refused_of : (t : Turn Item) → Plain t → item_turn ws at ≡ placed at t → FineTurn (length ws) per_word (placed_weight bands) at (placed at t) → (number place : ℕ) → item_step bands t ≡ item.Refused number place
+  refused_of : (t : Turn Item) → Plain t → item_turn ws at ≡ placed at t → FineTurn (length ws) per_word (placed_weight bands) at (placed at t) → (number place : ℕ) → item_step bands t ≡ item.refused number place
       → (at + place ≤ length ws) × (from_item bands ws s at ≡ ends_at (Refused number (at + place)))
   refused_of t (bads {number = n} {place = p}) h f number place e =
       let a : suc n ≡ number = cc in
@@ -150,5 +142,14 @@ module _ (bands : Bands) {ws : List ℕ} {s : Sums} {at k : ℕ} (m : Met ws s a
       let b : p ≡ place = cc in
       rw (← a, ← b) (f.1, rw (d at) at (ahead_broken bands ws s at m.sums_up_to.readable.within _ n (at + p) h))
 
-  pub item_refused : (number place : ℕ) → r ≡ item.Refused number place → (at + place ≤ length ws) × (from_item bands ws s at ≡ ends_at (Refused number (at + place)))
+  pub item_refused : (number place : ℕ) → r ≡ item.refused number place → (at + place ≤ length ws) × (from_item bands ws s at ≡ ends_at (Refused number (at + place)))
   item_refused number place e = refused_of (turn (drop at ws)) plain here fine number place (sym step ∙ e)
+
+-- a financing set, by what weighing it answered
+module _ (bands : Bands) {ws : List ℕ} {s : Sums} {at : ℕ} (m : Met ws s at 8) where
+  pub financing_next : {more : Sums} {next : ℕ} → ((b : Bands) → item.next more next ≡ item_step b (financing_set_turn (part_at ws at))) → Onward bands ws s at (plus s more) (at + next)
+  financing_next q = item_next bands m (λ z. omega arith) financing_set_turn (plain_financing _) (of_kind_8 _ (kind_here m)) _ (q bands) _ _ refl
+
+  pub financing_refused : {number place : ℕ} → ((b : Bands) → item.refused number place ≡ item_step b (financing_set_turn (part_at ws at)))
+      → (at + place ≤ length ws) × (from_item bands ws s at ≡ ends_at (Refused number (at + place)))
+  financing_refused q = item_refused bands m (λ z. omega arith) financing_set_turn (plain_financing _) (of_kind_8 _ (kind_here m)) _ (q bands) _ _ refl

@@ -1,7 +1,6 @@
 -- A step inside a derivative set, by what weighing it answered. Assumes nothing.
 use Prim.Native.Nat.{ℕ, ◌+◌, ◌^◌, ◌≤◌}
 use mathlib.Core.Path.{◌≡◌, ◌∙◌, ap}
-use mathlib.Core.Bool.{true}
 use mathlib.Core.List.{List}
 use native.Mathlib.Omega.{arith}
 use lib.ListN.{length, drop, length-drop}
@@ -14,43 +13,39 @@ use Rattle.weighing.specs.declared.read.SetWords.{SetWords}
 use Rattle.weighing.specs.declared.tally.Tally.{Tally}
 use Rattle.derivatives.specs.declared.set.OpenSet.{OpenSet}
 use Rattle.derivatives.specs.declared.set.Weighed.{Weighed}
+use Rattle.rules.specs.declared.causes.Refusal.{Refusal}
+use Rattle.std.specs.Prelude.{Result, Ok, Err}
 use Rattle.derivatives.specs.declared.set.Weighed.TheVariants.{Whole}
 use Rattle.derivatives.specs.declared.set.Weighed.TheVariants as set
 use Rattle.weighing.specs.Words.{set_words, set_of}
 use Rattle.weighing.specs.Gathered.{TallyFits, set_sums}
 use Rattle.weighing.proofs.SetRows.{set_roomy}
 use Rattle.derivatives.specs.Ahead.{set_ahead, TallyUpTo, SoundSet, weighed_ahead, SoundWeighed}
-use Rattle.reading.specs.declared.Admission.TheVariants.{Refused}
 use Rattle.reading.specs.declared.cursor.Cursor.{Cursor}
-use Rattle.reading.specs.declared.steps.Step.TheVariants.{On, Cover, Ended}
+use Rattle.reading.specs.declared.cursor.Stage.TheVariants as stage
+use Rattle.reading.specs.declared.steps.Step.TheVariants as step
 use Rattle.reading.specs.Ahead.{set_behind, from_set, ahead, Sound}
 use Rattle.reading.proofs.AheadLaws.{sums_roomy}
 use Rattle.reading.proofs.ItemLaws.{part_at, from_is}
 use Rattle.reading.proofs.SetBounds.{tally_fits, sums_with_set}
-use Rattle.reading.proofs.CursorLaws.{item_cursor, set_cursor, sound_item, sound_set, ahead_set, left_set, Right}
+use Rattle.reading.proofs.CursorLaws.{item_cursor, set_cursor, sound_item, sound_set, set_here, ahead_set, left_set, Right}
 
--- the set stands in its part of the book
-pub sound_part : {ws : List ℕ} {c : Cursor} → Sound ws c → c.begun ≡ true → c.inside ≡ true → SoundSet (part_at ws c.at) c.set × (c.at + length (part_at ws c.at) ≤ 2 ^ 20)
-sound_part {ws} {c} so b i =
-    let r = (so.sums_up_to b).readable in
-    rw (from_is ws c.at) (so.set b i, omega (arith, r.within, r.short, length-drop c.at ws))
-
-module _ {ws : List ℕ} {c : Cursor} (so : Sound ws c) (b : c.begun ≡ true) (i : c.inside ≡ true) (r : Weighed)
-    (q : (set_ahead c.bands (part_at ws c.at) c.at c.set ≡ weighed_ahead c.bands (part_at ws c.at) c.at r) × SoundWeighed (part_at ws c.at) r) where
-  weighed : (set_ahead (head_of ws).bands (drop c.at ws) c.at c.set ≡ weighed_ahead (head_of ws).bands (drop c.at ws) c.at r) × SoundWeighed (drop c.at ws) r
+module _ {ws : List ℕ} {c : Cursor} (so : Sound ws c) {o : OpenSet} (i : c.stage ≡ stage.Set o) (r : Result Weighed Refusal)
+    (q : (set_ahead c.bands (part_at ws c.at) c.at o ≡ weighed_ahead c.bands (part_at ws c.at) c.at r) × SoundWeighed (part_at ws c.at) r) where
+  weighed : (set_ahead (head_of ws).bands (drop c.at ws) c.at o ≡ weighed_ahead (head_of ws).bands (drop c.at ws) c.at r) × SoundWeighed (drop c.at ws) r
   weighed = rw (from_is ws c.at, so.bands) at q
 
   told : ahead ws c ≡ set_behind (head_of ws).bands ws c.sums c.at (weighed_ahead (head_of ws).bands (drop c.at ws) c.at r)
   unfolding from_set
-  told = ahead_set ws c b i ∙ ap (set_behind (head_of ws).bands ws c.sums c.at) weighed.0
+  told = ahead_set ws c i ∙ ap (set_behind (head_of ws).bands ws c.sums c.at) weighed.0
 
-  pub step_cover : (d : Draw) (o : OpenSet) → r ≡ set.Cover d o → Right ws c (Cover d (set_cursor c.bands c.at c.sums o))
+  pub step_cover : (d : Draw) (next : OpenSet) → r ≡ Ok (set.Cover d next) → Right ws c (Ok (step.Cover d (set_cursor c.bands c.at c.sums next)))
   unfolding ahead from_set
-  step_cover d o e =
-      let t : SoundSet (drop c.at ws) o = rw e at weighed.1 in
-      (rw e at told, sound_set so (so.sums_up_to b) t)
+  step_cover d next e =
+      let t : SoundSet (drop c.at ws) next = rw e at weighed.1 in
+      (rw e at told, sound_set so (set_here so i).0 t)
 
-  module _ (t : Tally) (place : ℕ) (e : r ≡ Whole t place) where
+  module _ (t : Tally) (place : ℕ) (e : r ≡ Ok (Whole t place)) where
     tally_there : TallyUpTo t place × (place ≤ length (drop c.at ws))
     tally_there = rw e at weighed.1
 
@@ -58,7 +53,7 @@ module _ {ws : List ℕ} {c : Cursor} (so : Sound ws c) (b : c.begun ≡ true) (
     behind_there =
         let l = tally_there in
         let w = l.0.weight in
-        (omega arith, omega (arith, l.1, length-drop c.at ws, (so.sums_up_to b).readable.within))
+        (omega arith, omega (arith, l.1, length-drop c.at ws, (set_here so i).0.readable.within))
 
     -- the place behind it is one of the book
     pub set_ends : c.at + place ≤ 2 ^ 20
@@ -75,27 +70,22 @@ module _ {ws : List ℕ} {c : Cursor} (so : Sound ws c) (b : c.begun ≡ true) (
     tally_small = tally_fits tally_there.0 (omega (arith, behind_there.1, so.readable.short))
 
     pub plus_roomy : (x : SetWords) {more : Sums} → more ≡ set_sums (set_of x) t → SumsRoomy c.sums × SumsRoomy more
-    plus_roomy x q = (sums_roomy (so.sums_up_to b), rw q (set_roomy x tally_small))
+    plus_roomy x q = (sums_roomy (set_here so i).0, rw q (set_roomy x tally_small))
 
-    pub step_whole : {x : SetWords} → x ≡ set_words (part_at ws c.at) → {more : Sums} → more ≡ set_sums (set_of x) t → {s : Sums} → s ≡ plus c.sums more → (o : OpenSet) → Right ws c (On (item_cursor c.bands (c.at + place) s o))
+    pub step_whole : {x : SetWords} → x ≡ set_words (part_at ws c.at) → {more : Sums} → more ≡ set_sums (set_of x) t → {s : Sums} → s ≡ plus c.sums more → Right ws c (Ok (step.On (item_cursor c.bands (c.at + place) s)))
     unfolding ahead
-    step_whole {x} xq {more} mq {s} sq o =
+    step_whole {x} xq {more} mq {s} sq =
         let d = set_words (drop c.at ws) in
         let brought : more ≡ set_sums (set_of d) t = mq ∙ ap (λ (y : SetWords). set_sums (set_of y) t) (xq ∙ ap set_words (from_is ws c.at)) in
         let made : s ≡ plus c.sums (set_sums (set_of d) t) = sq ∙ ap (plus c.sums) brought in
         rw made (
           rw e at told,
           (
-            sound_item so o (sums_with_set (so.sums_up_to b) d t place tally_there.0 behind_there.1),
-            omega (arith, left_set ws c b i, behind_there.0, behind_there.1),
+            sound_item so (sums_with_set (set_here so i).0 d t place tally_there.0 behind_there.1),
+            omega (arith, left_set ws c i, behind_there.0, behind_there.1),
           ),
         )
 
-  module _ (number place : ℕ) (e : r ≡ set.Refused number place) where
-    pub fault_there : c.at + place ≤ 2 ^ 20
-    fault_there =
-        let l : place ≤ length (drop c.at ws) = rw e at weighed.1 in
-        omega (arith, l, length-drop c.at ws, (so.sums_up_to b).readable.within, so.readable.short)
-
-    pub step_refused : Right ws c (Ended (Refused number (c.at + place)))
-    step_refused = (rw e at told, tt)
+  module _ (x : Refusal) (e : r ≡ Err x) where
+    pub step_refused : {y : Refusal} → y ≡ record { cause = x.cause; place = c.at + x.place } → Right ws c (Err y)
+    step_refused yq = rw yq (rw e at told, tt)

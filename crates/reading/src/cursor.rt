@@ -1,32 +1,35 @@
 // Where the reading of a book stands, and the next cover from there on.
 ghost use Rattle.std.specs.Prelude.{◌≡◌};
-ghost use Rattle.reading.specs.Ahead.{Sound, SoundNext, ahead, next_ahead, no_draw, new_cursor};
+ghost use Rattle.reading.specs.Ahead.{Sound, SoundNext, ahead, new_cursor, next_ahead};
 
-use crate::Admission;
 use crate::steps::{Step, next_step};
 use derivatives::set::OpenSet;
 use heads::head::bands_of;
-use records::sums::no_sums;
-use rules::{Bands, Draw, Sums, causes, limits};
+use rules::causes::Refusal;
+use rules::{Bands, Draw, Sums, limits};
 
-// Before the protections; where an item is due, with the sums of those before; or inside a derivative set, whose head stands there.
+// Before the protections; where an item is due; or inside a derivative set, whose head stands at the cursor's place.
+#[derive(Clone, Copy)]
+pub enum Stage {
+    Protections,
+    Items,
+    Set(OpenSet),
+}
+
+// The sums are those of the items before the place.
 #[derive(Clone, Copy)]
 pub struct Cursor {
-    pub begun: bool,
-    pub inside: bool,
+    pub stage: Stage,
     pub at: usize,
     pub sums: Sums,
-    pub set: OpenSet,
     pub bands: Bands,
 }
 
-// Whether there is a further cover; if so the cover as a draw, and the cursor behind it, else what the reading comes to.
+// The next cover as a draw, and the cursor behind it; or the sums of the whole book.
 #[derive(Clone, Copy)]
-pub struct NextCover {
-    pub some: bool,
-    pub draw: Draw,
-    pub cursor: Cursor,
-    pub reading: Admission,
+pub enum NextCover {
+    Cover(Draw, Cursor),
+    Over(Sums),
 }
 
 impl Cursor {
@@ -34,61 +37,31 @@ impl Cursor {
     pub fn new(book: &[u32]) -> Cursor
         ensures { result ≡ new_cursor book.now }
     {
-        let bands = bands_of(book);
         Cursor {
-            begun: false,
-            inside: false,
+            stage: Stage::Protections,
             at: limits::FIRST_RECORD,
-            sums: no_sums(),
-            set: OpenSet::new(),
-            bands: bands,
+            sums: Sums::default(),
+            bands: bands_of(book),
         }
     }
 }
 
-fn no_draw() -> Draw
-    ensures { result ≡ no_draw }
-{
-    Draw {
-        at: 0,
-        entity: 0,
-        rank: 0,
-        days: 0,
-        room: 0,
-        protection: 0,
-        amount: 0,
-    }
-}
-
 // The first cover from a cursor on.
-pub fn next_draw(book: &[u32], from: Cursor) -> NextCover
+pub fn next_draw(book: &[u32], from: Cursor) -> Result<NextCover, Refusal>
     requires { Sound book.now from }
     ensures { (ahead book.now from ≡ next_ahead book.now result) × SoundNext book.now result }
 {
     let mut c = from;
     loop {
-        match next_step(book, c) {
+        match next_step(book, c)? {
             Step::On(next) => {
                 c = next;
             }
             Step::Cover(draw, next) => {
-                return NextCover {
-                    some: true,
-                    draw: draw,
-                    cursor: next,
-                    reading: Admission::Refused {
-                        number: causes::NONE,
-                        place: 0,
-                    },
-                };
+                return Ok(NextCover::Cover(draw, next));
             }
-            Step::Ended(reading) => {
-                return NextCover {
-                    some: false,
-                    draw: no_draw(),
-                    cursor: c,
-                    reading: reading,
-                };
+            Step::Over(sums) => {
+                return Ok(NextCover::Over(sums));
             }
         }
     }

@@ -1,96 +1,103 @@
 // What stands where an item is due, behind the protections.
 ghost use Rattle.std.specs.Prelude.{◌≡◌, true, suc};
+ghost use Rattle.rules.specs.declared.Sums as sums;
+ghost use Rattle.rules.specs.Numbers.{fault_in};
 ghost use Rattle.rules.specs.Read.{end_fault, stands};
 ghost use Rattle.records.specs.Readable.{Readable};
 ghost use Rattle.reading.specs.Steps.{SumsUpTo};
-ghost use Rattle.reading.specs.Ahead.{AnswersItem, unless_faulty};
+ghost use Rattle.reading.specs.Ahead.{AnswersItem};
 
 use crate::runs::{assets, off_balance_items};
 use financing::financing_set;
-use records::ItemStep;
+use records::presence::standing;
+use records::record::{at_place, check_at};
 use records::sums::plus;
-use rules::{Sums, causes, kinds};
-use weighing::set_cause;
-use words::causes::cause;
-use words::numbers::either;
-use words::parts::{kind, payload};
+use rules::Sums;
+use rules::causes::{Cause, Refusal};
+use rules::kinds::Kind;
+use weighing::read::SetWords;
+use words::causes::refuse_if;
+use words::parts::payload;
 
-// Some items, with the sums that have them and the place behind them; the head of a derivative set; the end word; or a fault.
+// Some items, with the sums that have them and the place behind them; the head of a derivative set; or the end word.
 #[derive(Clone, Copy)]
 pub enum ItemAnswer {
     More(Sums, usize),
     Set,
     End,
-    Refused { number: u32, place: usize },
 }
 
 // "Kinds 2, 4, 8, 10 come in any order after the protections"; any other but the end is 5.
-pub fn item_at(book: &[u32], at: usize, s: Sums) -> ItemAnswer
+pub fn item_at(book: &[u32], at: usize, s: Sums) -> Result<ItemAnswer, Refusal>
     requires { SumsUpTo book.now s at }
     ensures { AnswersItem book.now s at result }
 {
     if book.len() <= at {
-        return ItemAnswer::Refused {
-            number: causes::END_FAULTY,
+        return Err(Refusal {
+            cause: Cause::EndFaulty,
             place: book.len(),
-        };
+        });
     }
-    let k = kind(book[at]);
-    if k == kinds::ASSET {
+    if standing(book, at, Kind::Asset) {
         return assets(book, at, s);
     }
-    if k == kinds::DERIVATIVE_SET {
-        return unless_faulty(set_cause(&book[at..]), at, ItemAnswer::Set);
+    if standing(book, at, Kind::DerivativeSet) {
+        return set_at(book, at);
     }
-    if k == kinds::FINANCING_SET {
+    if standing(book, at, Kind::FinancingSet) {
         return financing_at(book, at, s);
     }
-    if k == kinds::OFF_BALANCE {
+    if standing(book, at, Kind::OffBalance) {
         return off_balance_items(book, at, s);
     }
-    if k == kinds::END {
-        return unless_faulty(end_fault(book, at), at, ItemAnswer::End);
+    if standing(book, at, Kind::End) {
+        return end_at(book, at);
     }
-    ItemAnswer::Refused {
-        number: causes::KIND_NOT_ALLOWED,
+    Err(Refusal {
+        cause: Cause::KindNotAllowed,
         place: at,
-    }
+    })
 }
 
-// What stands there, unless it has a fault.
-fn unless_faulty(number: u32, at: usize, answer: ItemAnswer) -> ItemAnswer
-    ensures { result ≡ unless_faulty number at answer }
+// Kind 4, of which the head is read.
+fn set_at(book: &[u32], at: usize) -> Result<ItemAnswer, Refusal>
+    requires { Readable at book.now × (stands 4 book.now at ≡ true) }
+    ensures { (s : sums.Sums) → SumsUpTo book.now s at → AnswersItem book.now s at result }
 {
-    if number != causes::NONE {
-        return ItemAnswer::Refused { number, place: at };
-    }
-    answer
+    at_place(check_at::<SetWords>(&book[at..], 0), at)?;
+    Ok(ItemAnswer::Set)
 }
 
 // Kind 8, with its trades.
-fn financing_at(book: &[u32], at: usize, s: Sums) -> ItemAnswer
+fn financing_at(book: &[u32], at: usize, s: Sums) -> Result<ItemAnswer, Refusal>
     requires { SumsUpTo book.now s at × (stands 8 book.now at ≡ true) }
     ensures { AnswersItem book.now s at result }
 {
     match financing_set(&book[at..]) {
-        ItemStep::Next(more, next) => ItemAnswer::More(plus(s, more), at + next),
-        ItemStep::Refused { number, place } => ItemAnswer::Refused {
-            number,
-            place: at + place,
-        },
+        Ok((more, next)) => Ok(ItemAnswer::More(plus(s, more), at + next)),
+        Err(r) => Err(Refusal {
+            cause: r.cause,
+            place: at + r.place,
+        }),
     }
 }
 
-// Kind 15: "payload is the count of words before it; nothing follows".
-fn end_fault(book: &[u32], at: usize) -> u32
+// Kind 15.
+fn end_at(book: &[u32], at: usize) -> Result<ItemAnswer, Refusal>
+    requires { Readable at book.now × (stands 15 book.now at ≡ true) }
+    ensures { (s : sums.Sums) → SumsUpTo book.now s at → AnswersItem book.now s at result }
+{
+    at_place(check_end(book, at), at)?;
+    Ok(ItemAnswer::End)
+}
+
+// "payload is the count of words before it; nothing follows"
+#[tactic(auto, unfolding(rules::specs::Faults::cause, rules::specs::Read::end_fault))]
+fn check_end(book: &[u32], at: usize) -> Result<(), Cause>
     requires { Readable (suc at) book.now }
-    ensures { result ≡ end_fault book.now at }
+    ensures { fault_in result ≡ end_fault book.now at }
 {
     let miscounted = payload(book[at]) as usize != at;
     let followed = book.len() != at + 1;
-    cause(
-        causes::END_FAULTY,
-        either(miscounted, followed),
-        causes::NONE,
-    )
+    refuse_if(miscounted | followed, Cause::EndFaulty)
 }

@@ -2,17 +2,8 @@
 // the sums of the template. It stops at every cover, so that whoever holds the register can draw it; it touches no buffer itself.
 #![tactic(auto)]
 
-use rules::Sums;
-
 pub mod cursor;
 mod items;
 mod protections;
 mod runs;
 mod steps;
-
-// What a book comes to: admitted with its sums, or refused with a number at a place.
-#[derive(Clone, Copy)]
-pub enum Admission {
-    Admitted(Sums),
-    Refused { number: u32, place: usize },
-}

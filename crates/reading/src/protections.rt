@@ -3,58 +3,44 @@ ghost use Rattle.std.specs.Prelude.{◌≡◌};
 ghost use Rattle.rules.specs.Read.{first_record, protection_turn};
 ghost use Rattle.rules.specs.Run.{run_from};
 ghost use Rattle.records.specs.Readable.{Readable};
-ghost use Rattle.reading.specs.Steps.{place_of, protection_step};
+ghost use Rattle.reading.specs.Steps.{place_of, protection_step, protections_in};
 
-use records::protections::protection_cause;
-use rules::{causes, kinds, lengths, limits};
-use words::parts::kind;
+use records::protections::ProtectionWords;
+use records::record::{at_place, check_at};
+use rules::causes::{Cause, Refusal};
+use rules::kinds::Kind;
+use rules::{lengths, limits};
+use words::parts::is_kind;
 
-// What stands where a protection is due, and how far the protections reach.
-#[derive(Clone, Copy)]
-pub enum Protections {
-    Upto(usize),
-    Refused { number: u32, place: usize },
-}
-
-fn protection(book: &[u32], at: usize) -> Protections
+// The place behind the protection that is due.
+fn protection(book: &[u32], at: usize) -> Result<usize, Refusal>
     requires { Readable at book.now }
-    ensures { result ≡ protection_step (protection_turn book.now at) }
+    ensures { protections_in result ≡ protection_step (protection_turn book.now at) }
 {
     if book.len() <= at {
-        return Protections::Refused {
-            number: causes::END_FAULTY,
+        return Err(Refusal {
+            cause: Cause::EndFaulty,
             place: book.len(),
-        };
+        });
     }
-    if kind(book[at]) != kinds::PROTECTION {
-        return Protections::Refused {
-            number: causes::KIND_NOT_ALLOWED,
+    if !is_kind(book[at], Kind::Protection) {
+        return Err(Refusal {
+            cause: Cause::KindNotAllowed,
             place: at,
-        };
+        });
     }
-    let number = protection_cause(book, at);
-    if number != causes::NONE {
-        return Protections::Refused { number, place: at };
-    }
-    Protections::Upto(at + lengths::PROTECTION)
+    at_place(check_at::<ProtectionWords>(book, at), at)?;
+    Ok(at + lengths::PROTECTION)
 }
 
-pub fn read_protections(book: &[u32], b: usize) -> Protections
+// How far the protections reach.
+pub fn read_protections(book: &[u32], b: usize) -> Result<usize, Refusal>
     requires { Readable first_record book.now }
-    ensures { result ≡ place_of (run_from (protection_turn book.now) b first_record) }
+    ensures { protections_in result ≡ place_of (run_from (protection_turn book.now) b first_record) }
 {
     let mut at = limits::FIRST_RECORD;
-    let mut left = b;
-    while 0 < left {
-        match protection(book, at) {
-            Protections::Upto(next) => {
-                at = next;
-                left -= 1;
-            }
-            Protections::Refused { number, place } => {
-                return Protections::Refused { number, place };
-            }
-        }
+    for _i in 0..b {
+        at = protection(book, at)?;
     }
-    Protections::Upto(at)
+    Ok(at)
 }

@@ -1,120 +1,106 @@
 // One step of the reading: the protections, what stands where an item is due, or the members of a derivative set up to the next cover.
-ghost use Rattle.std.specs.Prelude.{◌≡◌, true, false};
+ghost use Rattle.std.specs.Prelude.{◌≡◌};
+ghost use Rattle.reading.specs.declared.cursor.Stage.TheVariants as stage;
 ghost use Rattle.reading.specs.Ahead.{Sound, SoundStep, ahead, step_ahead};
 
-use crate::Admission;
-use crate::cursor::Cursor;
+use crate::cursor::{Cursor, Stage};
 use crate::items::{ItemAnswer, item_at};
-use crate::protections::{Protections, read_protections};
+use crate::protections::read_protections;
 use derivatives::set::{OpenSet, Weighed, weigh};
 use heads::head::protections_of;
-use records::sums::{no_sums, plus};
-use rules::Draw;
-use weighing::read::set_words;
+use records::record::Record;
+use records::sums::plus;
+use rules::causes::Refusal;
+use rules::{Draw, Sums};
+use weighing::read::SetWords;
 use weighing::rows::set_sums;
 
-// The cursor further on; the next cover, and the cursor behind it; or what the reading comes to.
+// The cursor further on; the next cover, and the cursor behind it; or the sums of the whole book.
 #[derive(Clone, Copy)]
 pub enum Step {
     On(Cursor),
     Cover(Draw, Cursor),
-    Ended(Admission),
+    Over(Sums),
 }
 
-pub fn next_step(book: &[u32], c: Cursor) -> Step
+pub fn next_step(book: &[u32], c: Cursor) -> Result<Step, Refusal>
     requires { Sound book.now c }
     ensures { (ahead book.now c ≡ step_ahead book.now result) × SoundStep book.now c result }
 {
-    if !c.begun {
-        return protections_step(book, c);
+    match c.stage {
+        Stage::Protections => protections_step(book, c),
+        Stage::Items => item_step(book, c),
+        Stage::Set(set) => set_step(book, c, set),
     }
-    if c.inside {
-        return set_step(book, c);
-    }
-    item_step(book, c)
 }
 
 // "exactly b of them after the head"
-fn protections_step(book: &[u32], c: Cursor) -> Step
-    requires { Sound book.now c × (c.begun ≡ false) }
+fn protections_step(book: &[u32], c: Cursor) -> Result<Step, Refusal>
+    requires { Sound book.now c × (c.stage ≡ stage.Protections) }
     ensures { (ahead book.now c ≡ step_ahead book.now result) × SoundStep book.now c result }
 {
     let bands = c.bands;
-    match read_protections(book, protections_of(book)) {
-        Protections::Refused { number, place } => Step::Ended(Admission::Refused { number, place }),
-        Protections::Upto(at) => Step::On(Cursor {
-            begun: true,
-            inside: false,
-            at: at,
-            sums: no_sums(),
-            set: OpenSet::new(),
-            bands: bands,
-        }),
-    }
+    let at = read_protections(book, protections_of(book))?;
+    Ok(Step::On(Cursor {
+        stage: Stage::Items,
+        at,
+        sums: Sums::default(),
+        bands,
+    }))
 }
 
 // The set is read on its part of the book, from its head on.
-fn set_step(book: &[u32], c: Cursor) -> Step
-    requires { Sound book.now c × ((c.begun ≡ true) × (c.inside ≡ true)) }
+fn set_step(book: &[u32], c: Cursor, set: OpenSet) -> Result<Step, Refusal>
+    requires { Sound book.now c × (c.stage ≡ stage.Set set) }
     ensures { (ahead book.now c ≡ step_ahead book.now result) × SoundStep book.now c result }
 {
     let bands = c.bands;
     let at = c.at;
     let sums = c.sums;
-    let set = c.set;
     let part = &book[at..];
     match weigh(part, at, set, bands) {
-        Weighed::Cover(draw, next) => Step::Cover(
+        Ok(Weighed::Cover(draw, next)) => Ok(Step::Cover(
             draw,
             Cursor {
-                begun: true,
-                inside: true,
-                at: at,
-                sums: sums,
-                set: next,
-                bands: bands,
+                stage: Stage::Set(next),
+                at,
+                sums,
+                bands,
             },
-        ),
-        Weighed::Whole(t, place) => Step::On(Cursor {
-            begun: true,
-            inside: false,
+        )),
+        Ok(Weighed::Whole(t, place)) => Ok(Step::On(Cursor {
+            stage: Stage::Items,
             at: at + place,
-            sums: plus(sums, set_sums(set_words(part), t)),
-            set: OpenSet::new(),
-            bands: bands,
-        }),
-        Weighed::Refused { number, place } => Step::Ended(Admission::Refused {
-            number,
-            place: at + place,
+            sums: plus(sums, set_sums(SetWords::read(part, 0), t)),
+            bands,
+        })),
+        Err(r) => Err(Refusal {
+            cause: r.cause,
+            place: at + r.place,
         }),
     }
 }
 
-fn item_step(book: &[u32], c: Cursor) -> Step
-    requires { Sound book.now c × ((c.begun ≡ true) × (c.inside ≡ false)) }
+fn item_step(book: &[u32], c: Cursor) -> Result<Step, Refusal>
+    requires { Sound book.now c × (c.stage ≡ stage.Items) }
     ensures { (ahead book.now c ≡ step_ahead book.now result) × SoundStep book.now c result }
 {
     let bands = c.bands;
     let at = c.at;
     let sums = c.sums;
-    match item_at(book, at, sums) {
-        ItemAnswer::More(more, next) => Step::On(Cursor {
-            begun: true,
-            inside: false,
+    match item_at(book, at, sums)? {
+        ItemAnswer::More(more, next) => Ok(Step::On(Cursor {
+            stage: Stage::Items,
             at: next,
             sums: more,
-            set: OpenSet::new(),
-            bands: bands,
-        }),
-        ItemAnswer::Set => Step::On(Cursor {
-            begun: true,
-            inside: true,
-            at: at,
-            sums: sums,
-            set: OpenSet::new(),
-            bands: bands,
-        }),
-        ItemAnswer::End => Step::Ended(Admission::Admitted(sums)),
-        ItemAnswer::Refused { number, place } => Step::Ended(Admission::Refused { number, place }),
+            bands,
+        })),
+        ItemAnswer::Set => Ok(Step::On(Cursor {
+            stage: Stage::Set(OpenSet::new()),
+            at,
+            sums,
+            bands,
+        })),
+        ItemAnswer::End => Ok(Step::Over(sums)),
     }
 }

@@ -1,21 +1,27 @@
 -- The words behind a place, one by one from the last; what `lacking` and `standing` tell; and a record's turn by them.
 -- Assumes nothing.
 use Prim.Native.Nat.{ℕ, zero, suc, ◌+◌, ◌-◌, ◌≤◌, ◌<◌}
-use mathlib.Core.Path.{◌≡◌, refl, sym, ◌∙◌}
-use mathlib.Core.Bool.{Bool, true, false, not, ◌||◌, cond, or_assoc, or-false}
+use mathlib.Core.Path.{◌≡◌, refl, sym, ap, ◌∙◌}
+use mathlib.Core.Bool.{Bool, true, false, not, ◌||◌, cond, or_comm, and-false}
 use mathlib.Core.List.{List}
 use native.Mathlib.Omega.{arith}
-use native.Mathlib.Numerals.{sub-one}
-use borrow.Author.Tests.{le-leb, lt-leb, le-ltb, lt-ltb}
+use native.Mathlib.Numerals.{add-one}
+use borrow.Author.Tests.{le-leb, lt-leb}
 use lib.Dec.{eqb}
-use lib.ListN.{length}
+use lib.ListN.{length, take, drop, get_or, length-drop}
+use lib.Seq.{get_or-drop}
+use Rattle.std.specs.List.{fold, slice_range}
+use Rattle.std.proofs.lemmas.List.Sums.{fold_more}
 use Rattle.rules.specs.Word.{word, kind_of, amounts_in}
+use Rattle.rules.specs.declared.causes.Cause.{Cause}
+use Rattle.rules.specs.Numbers.{cause_number}
 use Rattle.rules.specs.Run.{Turn, bad, sound}
-use Rattle.rules.specs.Read.{lacks, record_then, stands}
+use Rattle.rules.specs.Read.{lacks, record_then}
 use Rattle.laws.proofs.Records.{lacks_room}
+use Rattle.records.specs.Cause.{sound_record}
 use Rattle.records.specs.Readable.{Readable}
 
--- ---- the loop of `lacking`: i is what it has come to, and `other` what it has seen of the words behind
+-- ---- `lacking`
 
 module _ (ws : List ℕ) (at n : ℕ) where
   pub lacking_short : (i : ℕ) → 0 < i → length ws ≤ at + i → true ≡ lacks i ws at
@@ -23,25 +29,30 @@ module _ (ws : List ℕ) (at n : ℕ) where
   lacking_short zero h k = let z : ⊥ = omega arith in absurd z
   lacking_short (suc i) h k = simp (le-leb _ _ k)
 
-  pub lacking_next : (i k : ℕ) (other more : Bool) → lacks n ws at ≡ (other || lacks i ws at) → 0 < i → at + i < length ws
-      → k ≡ kind_of (word ws (at + i)) → more ≡ (other || not (eqb k 0)) → lacks n ws at ≡ (more || lacks (i - 1) ws at)
-  unfolding lacks
-  lacking_next zero k other more e h l q f = let z : ⊥ = omega arith in absurd z
-  lacking_next (suc i) k other more e h l q f =
-      e ∙ simp (lt-leb _ _ l, ← q, sub-one, f) (sym (or_assoc other (not (eqb k 0)) (lacks i ws at)))
+-- from the first of the words on, as the fold goes
+module _ (ws : List ℕ) (at : ℕ) where
+  others_in : ℕ → Bool
+  others_in n = fold (λ (other : Bool) (w : ℕ). other || not (eqb (kind_of w) 0)) false (take n (drop (at + 1) ws))
 
-  pub lacking_end : (i : ℕ) (other : Bool) → lacks n ws at ≡ (other || lacks i ws at) → i ≤ 0 → other ≡ lacks n ws at
-  unfolding lacks
-  lacking_end zero other e h = sym (e ∙ or-false other)
-  lacking_end (suc i) other e h = let z : ⊥ = omega arith in absurd z
+  others_lacking : (n : ℕ) → at + n < length ws → others_in n ≡ lacks n ws at
+  unfolding lacks others_in
+  others_lacking zero h = refl
+  others_lacking (suc n) h =
+      let there : n < length (drop (at + 1) ws) = omega (arith, length-drop (at + 1) ws) in
+      let word_there : get_or (drop (at + 1) ws) n 0 ≡ word ws (at + suc n) = get_or-drop (at + 1) ws n 0 ∙ ap (word ws) (omega arith) in
+      let more = rw (word_there, others_lacking n (omega arith)) at (fold_more (λ (other : Bool) (w : ℕ). other || not (eqb (kind_of w) 0)) false (drop (at + 1) ws) n 0 there) in
+      rw (add-one n) at more ∙ simp (lt-leb (length ws) (at + suc n) h) (or_comm (lacks n ws at) (not (eqb (kind_of (word ws (at + suc n))) 0)))
 
--- ---- `standing`
+  pub lacking_fold : (n : ℕ) → at + n < length ws
+      → fold (λ (other : Bool) (w : ℕ). other || not (eqb (kind_of w) 0)) false (slice_range ws (at + 1) (at + n + 1)) ≡ lacks n ws at
+  unfolding others_in
+  lacking_fold n h =
+      let width : at + n + 1 - (at + 1) ≡ n = omega arith in
+      rw width (others_lacking n h)
 
-pub standing_beyond : (ws : List ℕ) (at k : ℕ) → length ws ≤ at → false ≡ stands k ws at
-standing_beyond ws at k h = simp (le-ltb at (length ws) h)
-
-pub standing_there : (ws : List ℕ) (at k n : ℕ) → at < length ws → n ≡ kind_of (word ws at) → eqb n k ≡ stands k ws at
-standing_there ws at k n h q = simp (lt-ltb at (length ws) h, q)
+-- a record whose words are not all there is none without a fault
+pub none_there : (kind n : ℕ) (ws : List ℕ) (at fault : ℕ) → 0 < n → length ws ≤ at + n → false ≡ sound_record kind n ws at fault
+none_there kind n ws at fault h l = simp (← (lacking_short ws at n n h l), and-false)
 
 -- ---- what they tell
 
@@ -68,15 +79,7 @@ module _ {A : Type 0} (ws : List ℕ) (at n : ℕ) (k : amounts_in (word ws at) 
   unfolding record_then
   turn_on e h = simp (k, e, h)
 
--- the cause of a record: 6, or what its words come to
-module _ (n : ℕ) (ws : List ℕ) (at f : ℕ) (l : Bool) (lq : l ≡ lacks n ws at) where
-  pub cause_lacking : l ≡ true → ◌≡◌ {A = ℕ} 6 (cond (lacks n ws at) 6 f)
-  cause_lacking e = simp (← lq, e)
-
-  pub cause_there : l ≡ false → (r : ℕ) → r ≡ f → r ≡ cond (lacks n ws at) 6 f
-  cause_there e r q = q ∙ simp (← lq, e)
-
--- and its turn by it
+-- its turn by its cause
 module _ {A : Type 0} (ws : List ℕ) (at n : ℕ) (k : amounts_in (word ws at) ≡ n) (f : ℕ) (next : ℕ → Turn A) where
   abbrev cause_of : ℕ
   cause_of = cond (lacks n ws at) 6 f
@@ -94,3 +97,7 @@ module _ {A : Type 0} (ws : List ℕ) (at n : ℕ) (k : amounts_in (word ws at) 
       go : (b : Bool) → lacks n ws at ≡ b → cond b 6 f ≡ 0 → (lacks n ws at ≡ false) × (record_then ws at f next ≡ next (at + suc n))
       go true q z = let z : ⊥ = omega arith in absurd z
       go false q z = (q, turn_on ws at n k f next q z)
+
+-- a cause has a number that is not 0
+pub cause_some : (c : Cause) → cause_number c ≡ 0 → ⊥
+cause_some c h = grind arith

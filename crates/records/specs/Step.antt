@@ -1,6 +1,8 @@
 -- What the reading makes of a record: its words, its causes, and of an item the sums that it has gathered so far with the item's part of each row.
 -- Assumes nothing.
-use Rattle.std.specs.Prelude.{ℕ, zero, suc, ◌+◌, ◌*◌, ◌^◌, Bool, not, ◌&&◌, List, [], ◌∷◌, eqb, leb, drop}
+use Rattle.std.specs.Prelude.{ℕ, zero, suc, ◌+◌, ◌*◌, ◌^◌, Bool, not, ◌&&◌, List, [], ◌∷◌, eqb, leb, drop, Result, Ok, Err}
+use Rattle.rules.specs.declared.causes.Refusal.{Refusal}
+use Rattle.rules.specs.Numbers.{cause_number}
 use Rattle.rules.specs.declared.Bands.{Bands}
 use Rattle.rules.specs.declared.Sums.{Sums}
 use Rattle.rules.specs.Word.{word, kind_of, payload_of, field_of, size_of, faulty_amount}
@@ -12,8 +14,6 @@ use Rattle.rules.specs.Run.{Turn, over, bad, some}
 use Rattle.records.specs.declared.assets.AssetWords.{AssetWords}
 use Rattle.records.specs.declared.commitments.OffBalanceWords.{OffBalanceWords}
 use Rattle.records.specs.declared.protections.ProtectionWords.{ProtectionWords}
-use Rattle.records.specs.declared.ItemStep.{ItemStep}
-use Rattle.records.specs.declared.ItemStep.TheVariants.{Next, Refused}
 use Rattle.records.specs.Cause.{record_cause}
 use Rattle.records.specs.Sums.{plus, item_sums}
 
@@ -23,12 +23,23 @@ use Rattle.records.specs.Sums.{plus, item_sums}
 abbrev pub plus_item : Bands → Sums → Item → Sums
 plus_item bands s i = plus s (item_sums bands i)
 
+-- what stands at an item's head: what the item brings to the sums and the place behind it, or the number and the place of the first fault.
+-- Places count from the item's head.
+pub data ItemStep : Type 0 where
+  next : Sums → (place : ℕ) → ItemStep
+  refused : (number place : ℕ) → ItemStep
+
 -- an item's turn is never over
 abbrev pub item_step : Bands → Turn Item → ItemStep
-item_step bands over = Refused 0 0
-item_step bands (bad number place) = Refused number place
-item_step bands (some i zero next) = Next (item_sums bands i) next
-item_step bands (some i (suc number) place) = Refused (suc number) place
+item_step bands over = refused 0 0
+item_step bands (bad number place) = refused number place
+item_step bands (some i zero place) = next (item_sums bands i) place
+item_step bands (some i (suc number) place) = refused (suc number) place
+
+-- as the code answers it
+abbrev pub step_of : Result (Sums × ℕ) Refusal → ItemStep
+step_of (Ok x) = next x.0 x.1
+step_of (Err r) = refused (cause_number r.cause) r.place
 
 -- an amount, and not negative
 abbrev pub plain_amount : ℕ → Bool
@@ -40,7 +51,7 @@ abbrev pub protection_words : List ℕ → ℕ → ProtectionWords
 protection_words ws at = record { head = word ws at; notional = word ws (at + 1); gain = word ws (at + 2); days = word ws (at + 3) }
 
 -- the causes 6 to 9
-unfoldable pub protection_cause : List ℕ → ℕ → ℕ
+abbrev pub protection_cause : List ℕ → ℕ → ℕ
 protection_cause ws at = record_cause 3 ws at (protection_fault (word ws at) (word ws (at + 1)) (word ws (at + 2)) (word ws (at + 3)))
 
 -- ---- assets
@@ -53,7 +64,7 @@ abbrev pub asset_list : AssetWords → List ℕ
 asset_list a = a.head ∷ a.carrying ∷ a.provision ∷ a.deducted ∷ []
 
 -- the causes 6 to 9
-unfoldable pub asset_cause : List ℕ → ℕ
+abbrev pub asset_cause : List ℕ → ℕ
 asset_cause ws = record_cause 3 ws 0 (asset_fault (word ws 0) (word ws 1) (word ws 2) (word ws 3))
 
 -- none of them, in as few tests as there are words
@@ -92,7 +103,7 @@ abbrev pub off_balance_list : OffBalanceWords → List ℕ
 off_balance_list o = o.head ∷ o.notional ∷ []
 
 -- the causes 6 to 8
-unfoldable pub off_balance_cause : List ℕ → ℕ
+abbrev pub off_balance_cause : List ℕ → ℕ
 off_balance_cause ws = record_cause 1 ws 0 (off_balance_fault (word ws 0) (word ws 1))
 
 -- none of them: a class that is faulty has no figure

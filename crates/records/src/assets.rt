@@ -1,22 +1,22 @@
 // Kind 2, an asset.
-ghost use Rattle.std.specs.Prelude.{◌≡◌, not, ◌&&◌, ◌+◌, ◌-◌, ◌*◌, ◌^◌, ◌≤◌, ◌<◌, eqb, leb, length};
-ghost use Rattle.rules.specs.Word.{kind_of, payload_of, size_of};
+ghost use Rattle.std.specs.Prelude.{◌≡◌, ◌*◌, ◌^◌, ◌≤◌, ◌<◌};
+ghost use Rattle.std.proofs.Common.{rules};
+ghost use Rattle.rules.specs.declared.kinds.Kind.TheVariants.{Asset};
+ghost use Rattle.rules.specs.Word.{size_of};
 ghost use Rattle.rules.specs.Faults.{asset_fault};
 ghost use Rattle.rules.specs.Read.{asset_at};
 ghost use Rattle.rules.specs.Rows.{asset_rows};
-ghost use Rattle.records.specs.Readable.{Readable};
-ghost use Rattle.records.specs.Step.{asset_cause, asset_list, asset_sums, asset_words, good_asset, sound_at};
+ghost use Rattle.records.specs.Step.{asset_list, asset_sums, asset_words, good_asset};
+ghost use Rattle.records.specs.Good.{asset_is};
 
-use crate::presence::lacking;
-use crate::sums::no_sums;
-use rules::{Sums, amounts, causes, kinds, payloads};
+use crate::record::{Good, Record};
+use rules::causes::Cause;
+use rules::kinds::Kind;
+use rules::{Sums, amounts, payloads};
 use words::amount::{faulty_amount, plain_amount, size};
-use words::causes::cause;
-use words::numbers::{both, chosen, either, wide};
-use words::parts::{bit, payload};
-
-// The head word of an asset but for its one mark.
-const HEAD: u32 = kinds::ASSET << 27;
+use words::causes::refuse_if;
+use words::numbers::chosen;
+use words::parts::{bit, is_head, payload};
 
 // The words of an asset.
 #[derive(Clone, Copy)]
@@ -27,102 +27,98 @@ pub struct AssetWords {
     pub deducted: u32,
 }
 
-pub fn asset_words(part: &[u32], at: usize) -> AssetWords
-    requires { Readable (at + 4) part.now }
-    ensures { result ≡ asset_words part.now at }
-{
-    AssetWords {
-        head: part[at],
-        carrying: part[at + 1],
-        provision: part[at + 2],
-        deducted: part[at + 3],
+impl Record for AssetWords {
+    const AMOUNTS: usize = amounts::ASSET;
+
+    ghost AMOUNTS = { 3 };
+
+    ghost words_at = { asset_words };
+
+    ghost fault = { λ a. asset_fault a.head a.carrying a.provision a.deducted };
+
+    fn read(part: &[u32], at: usize) -> Self {
+        AssetWords {
+            head: part[at],
+            carrying: part[at + 1],
+            provision: part[at + 2],
+            deducted: part[at + 3],
+        }
     }
-}
 
-// "p + d at most c"
-fn asset_fault(a: AssetWords) -> u32
-    ensures { result ≡ asset_fault a.head a.carrying a.provision a.deducted }
-{
-    let negative = either(
-        either(faulty_amount(a.carrying), faulty_amount(a.provision)),
-        faulty_amount(a.deducted),
-    );
-    let too_much = size(a.carrying) < size(a.provision) + size(a.deducted);
-    let at_odds = cause(causes::AMOUNTS_AT_ODDS, too_much, causes::NONE);
-    let amounts = cause(causes::AMOUNT_FAULTY, negative, at_odds);
-    cause(
-        causes::PAYLOAD_FAULTY,
-        payload(a.head) >= payloads::ASSET_END,
-        amounts,
-    )
-}
-
-// An asset's head word with no bit but its mark.
-fn good_head(w: u32) -> bool
-    ensures { result ≡ (eqb (kind_of w) 2 && not (leb 2 (payload_of w))) }
-{
-    w >> 1 == HEAD
-}
-
-// None of the causes 6 to 9, in as few tests as there are words.
-fn good_words(a: AssetWords) -> bool
-    ensures { result ≡ good_asset a }
-{
-    let amounts = both(
-        both(plain_amount(a.carrying), plain_amount(a.provision)),
-        plain_amount(a.deducted),
-    );
-    let within = size(a.provision) + size(a.deducted) <= size(a.carrying);
-    both(both(good_head(a.head), amounts), within)
-}
-
-// An asset without a fault stands at a place. Its words are all there before `end`, which is the book's length less its amounts.
-pub fn good_asset(book: &[u32], at: usize, end: usize) -> bool
-    requires { (length book.now ≤ 2 ^ 20) × (end ≡ length book.now - 3) }
-    ensures { result ≡ sound_at 2 asset_cause book.now at }
-{
-    if end <= at {
-        return false;
+    // "p + d at most c"
+    #[tactic(auto, unfolding(rules::specs::Faults::cause, rules::specs::Faults::asset_fault))]
+    fn check(self) -> Result<(), Cause> {
+        refuse_if(
+            payload(self.head) >= payloads::ASSET_END,
+            Cause::PayloadFaulty,
+        )?;
+        refuse_if(
+            faulty_amount(self.carrying)
+                | faulty_amount(self.provision)
+                | faulty_amount(self.deducted),
+            Cause::AmountFaulty,
+        )?;
+        refuse_if(
+            size(self.carrying) < size(self.provision) + size(self.deducted),
+            Cause::AmountsAtOdds,
+        )
     }
-    good_words(asset_words(book, at))
+
+    ghost some_amounts = { Prim.search rules };
+
+    ghost few_amounts = { Prim.search rules };
 }
 
-// The number of the cause for which the record is faulty, or 0.
-pub fn asset_cause(part: &[u32]) -> u32
-    requires { Readable 1 part.now }
-    ensures { result ≡ asset_cause part.now }
-{
-    if lacking(part, 0, amounts::ASSET) {
-        return causes::WORDS_LACKING;
+impl Good for AssetWords {
+    const KIND: Kind = Kind::Asset;
+
+    type Table = ();
+
+    ghost KIND = { Asset };
+
+    ghost good = { good_asset };
+
+    // In as few tests as there are words.
+    #[tactic(auto, unfolding(crate::specs::Step::good_asset))]
+    fn is_good(self, _table: &()) -> bool {
+        let amounts = plain_amount(self.carrying)
+            & plain_amount(self.provision)
+            & plain_amount(self.deducted);
+        let within = size(self.provision) + size(self.deducted) <= size(self.carrying);
+        is_head(self.head, Kind::Asset, 1) & amounts & within
     }
-    asset_fault(asset_words(part, 0))
+
+    ghost good_is = { asset_is };
 }
 
 // "1: c − p of assets not fiduciary", and d of fiduciary ones (request A.9): the mark chooses between two values, so that no branch hangs
 // on it.
+#[tactic(auto, unfolding(rules::specs::Rows::asset_rows, rules::specs::Read::asset_at))]
 pub fn carried_by(a: AssetWords) -> u64
     requires { size_of a.provision ≤ size_of a.carrying }
     ensures { result ≡ (asset_rows (asset_at (asset_list a))).carried }
 {
-    let deducted = wide(size(a.deducted));
-    let net_of_provision = wide(size(a.carrying) - size(a.provision));
+    let deducted = u64::from(size(a.deducted));
+    let net_of_provision = u64::from(size(a.carrying) - size(a.provision));
     let fiduciary = bit(a.head, payloads::ASSET_FIDUCIARY);
     chosen(fiduciary, deducted, net_of_provision)
 }
 
 // "2: −d", of fiduciary assets too: the deduction goes first.
+#[tactic(auto, unfolding(rules::specs::Rows::asset_rows, rules::specs::Read::asset_at))]
 pub fn deducted_by(a: AssetWords) -> u64
     ensures { result ≡ (asset_rows (asset_at (asset_list a))).deducted }
 {
-    wide(size(a.deducted))
+    u64::from(size(a.deducted))
 }
 
 pub fn asset_sums(carried: u64, deducted: u64) -> Sums
     requires { (1000 * carried < 2 ^ 64) × (1000 * deducted < 2 ^ 64) }
     ensures { result ≡ asset_sums carried deducted }
 {
-    let mut s = no_sums();
-    s.assets = 1000 * carried;
-    s.deducted = 1000 * deducted;
-    s
+    Sums {
+        assets: 1000 * carried,
+        deducted: 1000 * deducted,
+        ..Sums::default()
+    }
 }

@@ -1,14 +1,15 @@
 // Kind 3, a bought protection.
-ghost use Rattle.std.specs.Prelude.{◌≡◌, suc, ◌^◌, ◌≤◌};
+ghost use Rattle.std.specs.Prelude.{◌≡◌, ◌^◌, ◌≤◌};
+ghost use Rattle.std.proofs.Common.{rules};
 ghost use Rattle.rules.specs.Faults.{protection_fault};
-ghost use Rattle.records.specs.Readable.{Readable};
-ghost use Rattle.records.specs.Step.{protection_cause, protection_words};
+ghost use Rattle.records.specs.Step.{protection_words};
 
-use crate::presence::{lacking, word_at};
-use rules::{amounts, causes, payloads};
+use crate::presence::word_at;
+use crate::record::Record;
+use rules::causes::Cause;
+use rules::{amounts, payloads};
 use words::amount::{faulty_amount, faulty_days, size};
-use words::causes::cause;
-use words::numbers::either;
+use words::causes::refuse_if;
 use words::parts::payload;
 
 // The words of a protection.
@@ -20,44 +21,43 @@ pub struct ProtectionWords {
     pub days: u32,
 }
 
-// Words that are not there are 0: the register is loaded before the book is read.
-pub fn protection_words(book: &[u32], at: usize) -> ProtectionWords
-    requires { at ≤ 2 ^ 20 }
-    ensures { result ≡ protection_words book.now at }
-{
-    ProtectionWords {
-        head: word_at(book, at),
-        notional: word_at(book, at + 1),
-        gain: word_at(book, at + 2),
-        days: word_at(book, at + 3),
-    }
-}
+impl Record for ProtectionWords {
+    const AMOUNTS: usize = amounts::PROTECTION;
 
-// "gain (at most notional)"
-fn protection_fault(p: ProtectionWords) -> u32
-    ensures { result ≡ protection_fault p.head p.notional p.gain p.days }
-{
-    let faulty = either(
-        either(faulty_amount(p.notional), faulty_amount(p.gain)),
-        faulty_days(p.days),
-    );
-    let too_much = size(p.notional) < size(p.gain);
-    let at_odds = cause(causes::AMOUNTS_AT_ODDS, too_much, causes::NONE);
-    let amounts = cause(causes::AMOUNT_FAULTY, faulty, at_odds);
-    cause(
-        causes::PAYLOAD_FAULTY,
-        payload(p.head) >= payloads::PROTECTION_END,
-        amounts,
-    )
-}
+    ghost AMOUNTS = { 3 };
 
-// The number of the cause for which the record is faulty, or 0.
-pub fn protection_cause(book: &[u32], at: usize) -> u32
-    requires { Readable (suc at) book.now }
-    ensures { result ≡ protection_cause book.now at }
-{
-    if lacking(book, at, amounts::PROTECTION) {
-        return causes::WORDS_LACKING;
+    ghost words_at = { protection_words };
+
+    ghost fault = { λ p. protection_fault p.head p.notional p.gain p.days };
+
+    // Words that are not there are 0: the register is loaded before the book is read.
+    fn read(part: &[u32], at: usize) -> Self
+        requires { at ≤ 2 ^ 20 }
+        ensures { result ≡ protection_words part.now at }
+    {
+        ProtectionWords {
+            head: word_at(part, at),
+            notional: word_at(part, at + 1),
+            gain: word_at(part, at + 2),
+            days: word_at(part, at + 3),
+        }
     }
-    protection_fault(protection_words(book, at))
+
+    // "gain (at most notional)"
+    #[tactic(auto, unfolding(rules::specs::Faults::cause, rules::specs::Faults::protection_fault))]
+    fn check(self) -> Result<(), Cause> {
+        refuse_if(
+            payload(self.head) >= payloads::PROTECTION_END,
+            Cause::PayloadFaulty,
+        )?;
+        refuse_if(
+            faulty_amount(self.notional) | faulty_amount(self.gain) | faulty_days(self.days),
+            Cause::AmountFaulty,
+        )?;
+        refuse_if(size(self.notional) < size(self.gain), Cause::AmountsAtOdds)
+    }
+
+    ghost some_amounts = { Prim.search rules };
+
+    ghost few_amounts = { Prim.search rules };
 }

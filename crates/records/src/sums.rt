@@ -4,28 +4,7 @@ ghost use Rattle.records.specs.Sums as sums;
 
 use rules::Sums;
 
-pub fn no_sums() -> Sums
-    ensures { result ≡ sums.no_sums }
-{
-    Sums {
-        assets: 0,
-        deducted: 0,
-        replacement: 0,
-        weighted: 0,
-        posted: 0,
-        offset: 0,
-        exempt: 0,
-        written: 0,
-        covered: 0,
-        financed: 0,
-        netted: 0,
-        principal: 0,
-        agent: 0,
-        committed: 0,
-        unconverted: 0,
-    }
-}
-
+// No `impl Add`, which could stand only where `Sums` is declared, in `rules`, apart from the condition and the sum that it would cite.
 pub fn plus(s: Sums, more: Sums) -> Sums
     requires { sums.SumsRoomy s × sums.SumsRoomy more }
     ensures { result ≡ sums.plus s more }

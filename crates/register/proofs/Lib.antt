@@ -1,4 +1,3 @@
-pub mod Cleared
 pub mod Loaded
 pub mod Settling
 pub mod Start

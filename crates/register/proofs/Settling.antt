@@ -1,24 +1,21 @@
 -- The draws of a book one after the other: one draw from a register whose first entries are those of the definition, and what the
 -- entries and what lies ahead come to. Assumes nothing.
 use Prim.Native.Nat.{ℕ, zero, suc, ◌<◌}
-use mathlib.Core.Path.{◌≡◌, refl, sym, ◌∙◌, ap}
-use mathlib.Core.Bool.{Bool, true, false, not, cond}
+use mathlib.Core.Path.{◌≡◌, refl, sym, ap}
+use mathlib.Core.Bool.{Bool, true, false, cond}
 use mathlib.Core.List.{List, [], ◌∷◌, ◌++◌}
 use native.Mathlib.Nat.{lt_irrefl}
-use native.Mathlib.Omega.{arith}
 use borrow.Author.Tests.{leb-false, eq-eqb, ne_eqb}
-use lib.Dec.{lit<, leb, T as Holds}
+use lib.Dec.{lit<, leb}
 use lib.ListN.{length, set, get_or, get_or-append}
 use lib.Seq.{set-append_left, set-get_or}
 use Rattle.rules.specs.declared.Draw.{Draw}
 use Rattle.rules.specs.declared.Entry.{Entry}
 use Rattle.rules.specs.Faults.{cause}
 use Rattle.rules.specs.Register.{blank, unfit_for, draw_fault, drawn, if_fit, settle}
-use Rattle.reading.specs.declared.Admission.{Admission}
-use Rattle.reading.specs.declared.Admission.TheVariants.{Refused}
-use Rattle.reading.specs.declared.cursor.Cursor.{Cursor}
-use Rattle.reading.specs.declared.cursor.NextCover.{NextCover}
-use Rattle.reading.specs.Ahead.{Ahead, ends_at, after, ahead, next_ahead}
+use Rattle.reading.specs.Admission.{Admission}
+use Rattle.reading.specs.Admission.{Refused}
+use Rattle.reading.specs.Ahead.{Ahead, ends_at, after}
 use Rattle.register.specs.Draws.{drawn_down, fault_in, drawn_in, first_fault, left_by}
 
 -- ---- one draw
@@ -82,23 +79,3 @@ module _ (es : List Entry) (d : Draw) (a : Ahead) where
   pub goes_on : draw_fault es d ≡ 0 → comes_to es (after (d ∷ []) a) ≡ comes_to (drawn es d) a
   unfolding comes_to settle left_by
   goes_on e = simp e
-
--- ---- f is what is found from the cursor c on
-
-module _ (ws : List ℕ) (c : Cursor) (f : NextCover) (is : ahead ws c ≡ next_ahead ws f) where
-  pub found : Holds f.some → ahead ws c ≡ after (f.draw ∷ []) (ahead ws f.cursor)
-  found h = is ∙ by_some f.some h
-    where
-      by_some : (p : Bool) → Holds p → cond p (after (f.draw ∷ []) (ahead ws f.cursor)) (ends_at f.reading) ≡ after (f.draw ∷ []) (ahead ws f.cursor)
-      by_some true h = refl
-      by_some false h = absurd h
-
-  pub none : Holds (not f.some) → ahead ws c ≡ ends_at f.reading
-  none h = is ∙ by_some f.some h
-    where
-      by_some : (p : Bool) → Holds (not p) → cond p (after (f.draw ∷ []) (ahead ws f.cursor)) (ends_at f.reading) ≡ ends_at f.reading
-      by_some true h = absurd h
-      by_some false h = refl
-
-  pub fewer : Holds f.some → length (ahead ws f.cursor).draws < length (ahead ws c).draws
-  fewer h = rw (found h) (omega arith)

@@ -1,7 +1,6 @@
 -- A book of which nothing is read yet. Assumes nothing.
 use Prim.Native.Nat.{ℕ}
-use mathlib.Core.Path.{◌≡◌, refl, sym}
-use mathlib.Core.Bool.{true≢false}
+use mathlib.Core.Path.{◌≡◌, refl}
 use mathlib.Core.List.{List}
 use Rattle.rules.specs.Read.{first_record}
 use Rattle.records.specs.Readable.{Readable}
@@ -13,4 +12,4 @@ unfolding ahead
 start_ahead ws = refl
 
 pub start_sound : (ws : List ℕ) → Readable first_record ws → Sound ws (new_cursor ws)
-start_sound ws r = record { readable = r; bands = refl; sums_up_to = λ e. absurd (true≢false (sym e)); set = λ e. absurd (true≢false (sym e)) }
+start_sound ws r = record { readable = r; bands = refl; stage = tt }

@@ -1,11 +1,16 @@
 -- What becomes of one entry by a draw, and of the register by all draws of a book. Assumes nothing.
-use Rattle.std.specs.Prelude.{ℕ, cond, List, [], ◌∷◌, eqb, leb, get_or, set}
+use Rattle.std.specs.Prelude.{ℕ, cond, List, [], ◌∷◌, eqb, leb, get_or, set, Result, Ok, Err}
 use Rattle.rules.specs.declared.Draw.{Draw}
 use Rattle.rules.specs.declared.Entry.{Entry}
+use Rattle.rules.specs.declared.Sums.{Sums}
+use Rattle.rules.specs.declared.causes.Cause.{Cause}
+use Rattle.rules.specs.declared.causes.Refusal.{Refusal}
+use Rattle.rules.specs.Numbers.{cause_number}
 use Rattle.rules.specs.Faults.{cause}
 use Rattle.rules.specs.Register.{blank, unfit_for, draw_fault, drawn_from, drawn, Settled, unfit, settled, settle}
-use Rattle.reading.specs.declared.Admission.{Admission}
-use Rattle.reading.specs.declared.Admission.TheVariants.{Refused}
+use Rattle.reading.specs.Admission.{Admission}
+use Rattle.reading.specs.Admission.{Admitted, Refused}
+use Rattle.reading.specs.Steps.{refused_by}
 use Rattle.reading.specs.Ahead.{records_ahead}
 use Rattle.register.specs.Loading.{loaded_from}
 
@@ -14,6 +19,15 @@ use Rattle.register.specs.Loading.{loaded_from}
 -- an entry after a draw: as it was, where the draw does not fit it
 unfoldable pub drawn_down : Entry → Draw → Entry
 drawn_down e d = cond (eqb (unfit_for e d) 0) (drawn_from e d.amount) e
+
+-- the code answers with the entry after the draw, or with the cause: its number, 0 where the draw fits, and what becomes of the entry
+abbrev pub answer_number : Result Entry Cause → ℕ
+answer_number (Ok after) = 0
+answer_number (Err c) = cause_number c
+
+abbrev pub entry_after : Entry → Result Entry Cause → Entry
+entry_after e (Ok after) = after
+entry_after e (Err c) = e
 
 -- a draw from the first b entries: its number, and the entries after it
 unfoldable pub fault_in : (b : ℕ) → List Entry → Draw → ℕ
@@ -25,6 +39,11 @@ drawn_in b entries d =
     (set entries d.protection (drawn_down (get_or entries d.protection blank) d))
 
 -- ---- all draws
+
+-- what a book comes to, as the code answers it
+abbrev pub admission_in : Result Sums Refusal → Admission
+admission_in (Ok sums) = Admitted sums
+admission_in (Err r) = refused_by r
 
 -- "the first faulty record": a cover that does not fit stands before the place at which the reading ends
 abbrev pub first_fault : Admission → Settled → Admission

@@ -1,97 +1,51 @@
 // The lent register. What becomes of an entry is decided by value in `drawn_down`; the functions that hold the slice only read and store.
-ghost use Rattle.std.specs.Prelude.{◌≡◌, ◌≤◌, ◌<◌, ◌++◌, drop, length, replicate, set};
+ghost use Rattle.std.specs.Prelude.{◌≡◌, ◌≤◌, ◌++◌, drop, length, replicate};
+ghost use Rattle.rules.specs.Numbers as numbers;
 ghost use Rattle.rules.specs.Register.{blank, unfit_for};
 ghost use Rattle.register.specs.Loading.{loaded_from};
-ghost use Rattle.register.specs.Draws.{drawn_down, fault_in, drawn_in};
+ghost use Rattle.register.specs.Draws.{answer_number, drawn_down, fault_in, drawn_in, entry_after};
 
 use crate::book::entry_from;
-use rules::{Draw, Entry, causes};
-use words::numbers::short_of;
+use rules::causes::Cause;
+use rules::{Draw, Entry};
+use words::causes::refuse_if;
 
-// An entry after a draw, and the number of the cause where the draw does not fit.
-#[derive(Clone, Copy)]
-pub struct Drawn {
-    pub entry: Entry,
-    pub number: u32,
+// Whether a draw fits an entry, and if not the cause.
+#[tactic(auto, unfolding(rules::specs::Register::unfit_for, rules::specs::Faults::cause))]
+pub fn unfit(e: Entry, d: Draw) -> Result<(), Cause>
+    ensures { numbers.fault_in result ≡ unfit_for e d }
+{
+    refuse_if(
+        (e.entity != d.entity) | (e.rank < d.rank) | (e.days < d.days),
+        Cause::ProtectionUnfit,
+    )?;
+    refuse_if(
+        (e.left < d.amount) | (d.room < d.amount),
+        Cause::CoverBeyond,
+    )
 }
 
-// The number of the cause for which a draw does not fit an entry, or 0.
-pub fn unfit(e: Entry, d: Draw) -> u32
-    ensures { result ≡ unfit_for e d }
+// The entry, fallen by the draw's amount; or the cause for which the draw does not fit it.
+#[tactic(auto, unfolding(crate::specs::Draws::drawn_down))]
+pub fn drawn_down(e: Entry, d: Draw) -> Result<Entry, Cause>
+    ensures { (answer_number result ≡ unfit_for e d) × (entry_after e result ≡ drawn_down e d) }
 {
-    if e.entity != d.entity {
-        return causes::PROTECTION_UNFIT;
-    }
-    if e.rank < d.rank {
-        return causes::PROTECTION_UNFIT;
-    }
-    if e.days < d.days {
-        return causes::PROTECTION_UNFIT;
-    }
-    if e.left < d.amount {
-        return causes::COVER_BEYOND;
-    }
-    if d.room < d.amount {
-        return causes::COVER_BEYOND;
-    }
-    causes::NONE
-}
-
-// The entry falls by the draw's amount; one that the draw does not fit stays as it is.
-pub fn drawn_down(e: Entry, d: Draw) -> Drawn
-    ensures { (result.number ≡ unfit_for e d) × (result.entry ≡ drawn_down e d) }
-{
-    let number = unfit(e, d);
-    if number != causes::NONE {
-        return Drawn {
-            entry: e,
-            number: number,
-        };
-    }
+    unfit(e, d)?;
     let before = e.left;
-    let after = short_of(before, d.amount);
-    Drawn {
-        entry: Entry {
-            entity: e.entity,
-            rank: e.rank,
-            days: e.days,
-            left: after,
-        },
-        number: causes::NONE,
-    }
+    let after = before.saturating_sub(d.amount);
+    Ok(Entry { left: after, ..e })
 }
 
-pub fn empty() -> Entry
-    ensures { result ≡ blank }
-{
-    Entry {
-        entity: 0,
-        rank: 0,
-        days: 0,
-        left: 0,
-    }
-}
-
-// The entry at a place becomes `e`.
-pub fn load(register: &mut [Entry], i: usize, e: Entry)
-    requires { i < length register.old }
-    ensures { register.new ≡ set register.old i e }
-{
-    register[i] = e;
-}
-
-// A draw from the first b entries. The answer is 0, or the number of the cause for which it does not fit.
-pub fn draw(register: &mut [Entry], b: usize, d: Draw) -> u32
+// A draw from the first b entries, or the cause for which it does not fit.
+#[tactic(auto, unfolding(crate::specs::Draws::fault_in, crate::specs::Draws::drawn_in, rules::specs::Faults::cause))]
+pub fn draw(register: &mut [Entry], b: usize, d: Draw) -> Result<(), Cause>
     requires { b ≤ length register.old }
-    ensures { (result ≡ fault_in b register.old d) × (register.new ≡ drawn_in b register.old d) }
+    ensures { (numbers.fault_in result ≡ fault_in b register.old d) × (register.new ≡ drawn_in b register.old d) }
 {
     let i = d.protection as usize;
-    if b <= i {
-        return causes::NO_SUCH_PROTECTION;
-    }
-    let after = drawn_down(register[i], d);
-    register[i] = after.entry;
-    after.number
+    refuse_if(b <= i, Cause::NoSuchProtection)?;
+    register[i] = drawn_down(register[i], d)?;
+    Ok(())
 }
 
 // The first n entries become all zero, and the others stay.
@@ -99,21 +53,16 @@ pub fn clear(register: &mut [Entry], n: usize)
     requires { n ≤ length register.old }
     ensures { register.new ≡ replicate n blank ++ drop n register.old }
 {
-    let mut i = 0;
-    while i < n {
-        load(register, i, empty());
-        i += 1;
-    }
+    register[..n].fill(Entry::default());
 }
 
 // The first b entries become the protections of the book, and the others stay.
+#[tactic(auto, using(crate::proofs::Loaded::loads_next, crate::proofs::Loaded::all_loaded), unfolding(crate::specs::Loading::loaded_from))]
 pub fn load_all(book: &[u32], register: &mut [Entry], b: usize)
     requires { (b ≤ 4096) × (b ≤ length register.old) }
     ensures { register.new ≡ loaded_from book.now b 0 ++ drop b register.old }
 {
-    let mut i = 0;
-    while i < b {
-        load(register, i, entry_from(book, i));
-        i += 1;
+    for (i, entry) in register[..b].iter_mut().enumerate() {
+        *entry = entry_from(book, i);
     }
 }

@@ -8,3 +8,4 @@ pub mod Kept
 pub mod Ratios
 pub mod RatioCases
 pub mod Along
+pub mod Numbers

@@ -12,3 +12,4 @@ pub mod Rows
 pub mod Register
 pub mod Filing
 pub mod TwoDesks
+pub mod Numbers

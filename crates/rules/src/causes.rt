@@ -1,34 +1,77 @@
-// The numbers of document 01, "When a book is turned away".
-pub const NONE: u32 = 0;
+// The causes for which a book is turned away (document 01, "When a book is turned away"), and what is answered then.
+ghost use Rattle.std.specs.Prelude.{◌≡◌, Some};
+ghost use Rattle.std.specs.Fmt.{decimal};
+ghost use Rattle.rules.specs.Numbers.{cause_number, refused_text};
 
-pub const ROWS_SHORT: u32 = 1;
+use std::fmt;
 
-pub const BOOK_LONG: u32 = 2;
+#[derive(Clone, Copy, Debug, PartialEq, Eq)]
+pub enum Cause {
+    RowsShort,
+    BookLong,
+    HeadFaulty,
+    RegisterShort,
+    KindNotAllowed,
+    WordsLacking,
+    PayloadFaulty,
+    AmountFaulty,
+    AmountsAtOdds,
+    DaysFall,
+    NoSuchProtection,
+    ProtectionUnfit,
+    CoverBeyond,
+    EndFaulty,
+    NoSuchSet,
+    DateFaulty,
+    BasketFaulty,
+}
 
-pub const HEAD_FAULTY: u32 = 3;
+// A cause, and the place of the record that has it.
+#[derive(Clone, Copy, Debug, PartialEq, Eq)]
+pub struct Refusal {
+    pub cause: Cause,
+    pub place: usize,
+}
 
-pub const REGISTER_SHORT: u32 = 4;
+// The paper's number.
+impl From<Cause> for u32 {
+    ghost from_gives = { λ c n. n ≡ cause_number c };
 
-pub const KIND_NOT_ALLOWED: u32 = 5;
+    fn from(c: Cause) -> u32 {
+        match c {
+            Cause::RowsShort => 1,
+            Cause::BookLong => 2,
+            Cause::HeadFaulty => 3,
+            Cause::RegisterShort => 4,
+            Cause::KindNotAllowed => 5,
+            Cause::WordsLacking => 6,
+            Cause::PayloadFaulty => 7,
+            Cause::AmountFaulty => 8,
+            Cause::AmountsAtOdds => 9,
+            Cause::DaysFall => 10,
+            Cause::NoSuchProtection => 11,
+            Cause::ProtectionUnfit => 12,
+            Cause::CoverBeyond => 13,
+            Cause::EndFaulty => 14,
+            Cause::NoSuchSet => 15,
+            Cause::DateFaulty => 16,
+            Cause::BasketFaulty => 17,
+        }
+    }
+}
 
-pub const WORDS_LACKING: u32 = 6;
+impl fmt::Display for Cause {
+    ghost output = { λ c. Some (decimal (cause_number c)) };
 
-pub const PAYLOAD_FAULTY: u32 = 7;
+    fn fmt<W: fmt::Write>(&self, f: &mut fmt::Formatter<W>) -> fmt::Result {
+        write!(f, "{}", u32::from(*self))
+    }
+}
 
-pub const AMOUNT_FAULTY: u32 = 8;
+impl fmt::Display for Refusal {
+    ghost output = { λ r. Some (refused_text r) };
 
-pub const AMOUNTS_AT_ODDS: u32 = 9;
-
-pub const DAYS_FALL: u32 = 10;
-
-pub const NO_SUCH_PROTECTION: u32 = 11;
-
-pub const PROTECTION_UNFIT: u32 = 12;
-
-pub const COVER_BEYOND: u32 = 13;
-
-pub const END_FAULTY: u32 = 14;
-
-pub const DATE_FAULTY: u32 = 16;
-
-pub const BASKET_FAULTY: u32 = 17;
+    fn fmt<W: fmt::Write>(&self, f: &mut fmt::Formatter<W>) -> fmt::Result {
+        write!(f, "refused {} at {}", self.cause, self.place)
+    }
+}

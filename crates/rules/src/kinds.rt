@@ -1,26 +1,72 @@
 // The kinds of words: "bits 31 to 28 are its kind" (document 01, "Records").
-pub const AMOUNT: u32 = 0;
+ghost use Rattle.std.specs.Prelude.{◌≡◌};
+ghost use Rattle.rules.specs.Numbers.{kind_number, KindOf};
 
-pub const HEAD: u32 = 1;
+#[derive(Clone, Copy, Debug, PartialEq, Eq)]
+pub enum Kind {
+    Amount,
+    Head,
+    Asset,
+    Protection,
+    DerivativeSet,
+    Trade,
+    WrittenCredit,
+    Cover,
+    FinancingSet,
+    FinancingTrade,
+    OffBalance,
+    Basket,
+    End,
+}
 
-pub const ASSET: u32 = 2;
+// A number that is of no kind.
+#[derive(Clone, Copy, Debug, PartialEq, Eq)]
+pub struct NoKind(pub u32);
 
-pub const PROTECTION: u32 = 3;
+// The paper's number.
+impl From<Kind> for u32 {
+    ghost from_gives = { λ k n. n ≡ kind_number k };
 
-pub const DERIVATIVE_SET: u32 = 4;
+    fn from(k: Kind) -> u32 {
+        match k {
+            Kind::Amount => 0,
+            Kind::Head => 1,
+            Kind::Asset => 2,
+            Kind::Protection => 3,
+            Kind::DerivativeSet => 4,
+            Kind::Trade => 5,
+            Kind::WrittenCredit => 6,
+            Kind::Cover => 7,
+            Kind::FinancingSet => 8,
+            Kind::FinancingTrade => 9,
+            Kind::OffBalance => 10,
+            Kind::Basket => 11,
+            Kind::End => 15,
+        }
+    }
+}
 
-pub const TRADE: u32 = 5;
+impl TryFrom<u32> for Kind {
+    type Error = NoKind;
 
-pub const WRITTEN_CREDIT: u32 = 6;
+    ghost try_from_gives = { KindOf };
 
-pub const COVER: u32 = 7;
-
-pub const FINANCING_SET: u32 = 8;
-
-pub const FINANCING_TRADE: u32 = 9;
-
-pub const OFF_BALANCE: u32 = 10;
-
-pub const BASKET: u32 = 11;
-
-pub const END: u32 = 15;
+    fn try_from(number: u32) -> Result<Self, NoKind> {
+        match number {
+            0 => Ok(Kind::Amount),
+            1 => Ok(Kind::Head),
+            2 => Ok(Kind::Asset),
+            3 => Ok(Kind::Protection),
+            4 => Ok(Kind::DerivativeSet),
+            5 => Ok(Kind::Trade),
+            6 => Ok(Kind::WrittenCredit),
+            7 => Ok(Kind::Cover),
+            8 => Ok(Kind::FinancingSet),
+            9 => Ok(Kind::FinancingTrade),
+            10 => Ok(Kind::OffBalance),
+            11 => Ok(Kind::Basket),
+            15 => Ok(Kind::End),
+            _ => Err(NoKind(number)),
+        }
+    }
+}

@@ -13,7 +13,7 @@ pub mod verdicts;
 
 // An entry of the register: a bought protection, and how much of it no cover has drawn yet.
 #[repr(C)]
-#[derive(Clone, Copy)]
+#[derive(Clone, Copy, Debug, PartialEq, Eq, Default)]
 pub struct Entry {
     pub entity: u32,
     pub rank: u32,
@@ -23,7 +23,7 @@ pub struct Entry {
 
 // A cover that is to be drawn from an entry of the register: where its record stands in the book, the entity, rank and days of the
 // written credit, what is left of that credit's notional minus loss, the place of the protection in the register, and the amount.
-#[derive(Clone, Copy)]
+#[derive(Clone, Copy, Debug, PartialEq, Eq)]
 pub struct Draw {
     pub at: usize,
     pub entity: u32,
@@ -35,14 +35,14 @@ pub struct Draw {
 }
 
 // The last day of the first and of the second band of the factors, counted from the reporting date: one and five calendar years.
-#[derive(Clone, Copy)]
+#[derive(Clone, Copy, Debug, PartialEq, Eq)]
 pub struct Bands {
     pub short: u32,
     pub medium: u32,
 }
 
 // The sums of which the template is made, in thousandths of the unit, each by the row that it goes into.
-#[derive(Clone, Copy)]
+#[derive(Clone, Copy, Debug, PartialEq, Eq, Default)]
 pub struct Sums {
     pub assets: u64,
     pub deducted: u64,
@@ -59,4 +59,11 @@ pub struct Sums {
     pub agent: u64,
     pub committed: u64,
     pub unconverted: u64,
+}
+
+// Tier 1 in units, as a gain less a loss, one of which is 0.
+#[derive(Clone, Copy, Debug, PartialEq, Eq)]
+pub struct Tier1 {
+    pub gain: u32,
+    pub loss: u32,
 }

@@ -1,40 +1,42 @@
 -- What a search finds as the code hands it on: a span of the book, for every book. Assumes nothing.
 use Prim.Native.Nat.{ℕ, ◌+◌, ◌≤◌, ◌<◌}
-use mathlib.Core.Path.{◌≡◌, refl}
+use mathlib.Core.Path.{◌≡◌, refl, sym, ◌∙◌}
 use mathlib.Core.List.{List}
+use mathlib.Core.Bool.{Bool}
 use native.Mathlib.Omega.{arith}
 use borrow.Author.Tests.{lt-ltb, le-ltb}
 use lib.ListN.{length}
 use denote.Ref.{Bor}
-use Rattle.rules.specs.declared.Sums.{Sums}
+use Rattle.std.proofs.Common.{Option, Some, None}
+use Rattle.std.specs.Option.{unwrap_or}
 use Rattle.rules.specs.Word.{word, kind_of}
-use Rattle.reading.specs.declared.Admission.{Admission}
-use Rattle.reading.specs.declared.Admission.TheVariants.{Admitted, Refused}
-use Rattle.cuts.proofs.Cutting.{items_begin}
-use Rattle.cuts.proofs.ByKind.{is_set}
-use Rattle.sets.specs.declared.Shown.{Shown}
-use Rattle.sets.specs.declared.sought.Sought.{Sought}
-use Rattle.sets.specs.Sets.{turned_away, VeryStretch}
-use Rattle.sets.specs.Search.{end_of, passes, place_from, found_at, found_in, Within}
+use Rattle.sets.specs.Sets.{Shown, turned_away, VeryStretch}
+use Rattle.sets.specs.Search.{ends, place_from, found_at, IsPlace}
 use Rattle.sets.proofs.SearchLaws.{place_within}
 
--- a set is there
-pub found_there : (ws : List ℕ) (place begin : ℕ) → begin ≡ place → begin < length ws → (s : Sought) → s ≡ end_of (kind_of (word ws begin)) → (end : ℕ) → end ≡ place_from (passes s) ws (begin + 1) 0
-    → (record { number = 0; place = 0; begin = begin; end = end } ≡ found_at ws place) × Within ws (record { number = 0; place = 0; begin = begin; end = end })
-found_there ws place begin e l s q end f =
-    let w = place_within (passes s) ws (begin + 1) 0 (omega arith) in
-    (rw (← e, lt-ltb begin (length ws) l, f, q), (omega arith, omega arith))
+-- where a place is answered, the set there is what is shown
+pub found_there : (ws : List ℕ) (place begin : ℕ) → IsPlace (length ws) place (Some begin) → (end : ℕ) → end ≡ place_from (ends (kind_of (word ws begin))) ws (begin + 1) 0
+    → record { number = 0; place = 0; begin = begin; end = end } ≡ found_at ws place
+found_there ws place begin p end f = rw (← p.0, lt-ltb begin (length ws) p.1, f) refl
 
 -- none is
-pub found_none : (ws : List ℕ) (place begin : ℕ) → begin ≡ place → length ws ≤ begin → (r : Shown) → r ≡ turned_away 15 0 → (r ≡ found_at ws place) × Within ws r
-found_none ws place begin e l r q = rw (q, ← e, le-ltb begin (length ws) l) (refl, (omega arith, omega arith))
+pub found_none : (ws : List ℕ) (place : ℕ) → IsPlace (length ws) place None → turned_away 15 0 ≡ found_at ws place
+found_none ws place p = rw (p, le-ltb (length ws) (length ws) (omega arith)) refl
 
-module _ (ws : List ℕ) (ordinal : ℕ) (a : Admission) (r : Shown) where
-  pub found_refused : (number place : ℕ) → a ≡ Refused number place → r ≡ turned_away number place → (r ≡ found_in ws ordinal a) × Within ws r
-  found_refused number place e q = rw (e, q) (refl, (omega arith, omega arith))
+-- where it ends
+pub set_ends : (ws : List ℕ) (begin end : ℕ) (test : ℕ → Bool) → ends (kind_of (word ws begin)) ≡ test → begin < length ws → (at : Option ℕ) → IsPlace (length ws) (place_from test ws (begin + 1) 0) at
+    → end ≡ unwrap_or at (length ws) → (end ≡ place_from (ends (kind_of (word ws begin))) ws (begin + 1) 0) × ((begin < end) × (end ≤ length ws))
+set_ends ws begin end test t l at p e = rw t (is, (omega (arith, is, within.0), omega (arith, is, within.1)))
+  where
+    of : (at : Option ℕ) → IsPlace (length ws) (place_from test ws (begin + 1) 0) at → unwrap_or at (length ws) ≡ place_from test ws (begin + 1) 0
+    of (Some i) p = p.0
+    of None p = sym p
 
-  pub found_admitted : (sums : Sums) → a ≡ Admitted sums → (r ≡ found_at ws (place_from is_set ws (items_begin ws) ordinal)) × Within ws r → (r ≡ found_in ws ordinal a) × Within ws r
-  found_admitted sums e q = rw e q
+    is : end ≡ place_from test ws (begin + 1) 0
+    is = e ∙ of at p
+
+    within : (begin + 1 ≤ place_from test ws (begin + 1) 0) × (place_from test ws (begin + 1) 0 ≤ length ws)
+    within = place_within test ws (begin + 1) 0 (omega arith)
 
 -- the very stretch of what is equal
 pub very_same : (book r : Bor (List ℕ)) (s t : Shown) → s ≡ t → VeryStretch book s r → VeryStretch book t r

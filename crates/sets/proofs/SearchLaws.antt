@@ -1,23 +1,24 @@
 -- A search word by word and block by block: what one word, or so many, say of what is found from there on. Assumes nothing.
-use Prim.Native.Nat.{ℕ, zero, suc, ◌+◌, ◌-◌, ◌≤◌, ◌<◌, ◌^◌}
+use Prim.Native.Nat.{ℕ, zero, suc, ◌+◌, ◌-◌, ◌≤◌, ◌<◌, ◌^◌, min}
 use mathlib.Core.Path.{◌≡◌, refl, sym, ◌∙◌, ap}
-use mathlib.Core.Bool.{Bool, true, false, cond, ◌&&◌}
-use mathlib.Core.List.{List, [], ◌++◌}
+use mathlib.Core.Bool.{Bool, true, false, cond}
+use mathlib.Core.List.{List, [], ◌∷◌, ◌++◌, map}
 use native.Mathlib.Omega.{arith}
 use native.Mathlib.Numerals.{add-one}
 use native.Mathlib.Nat.{add-zero, suc-add, add-suc}
-use borrow.Author.Tests.{ne_eqb, eqb-true, ltb-true}
+use borrow.Author.Tests.{ne_eqb, leb-true, leb-false}
+use lib.Dec.{leb}
 use lib.Bits.{bit_or, or_add_and, and_le_r, or_comm}
-use lib.Dec.{eqb}
-use lib.ListN.{length, get_or}
-use lib.Seq.{get_or-append-add}
+use lib.ListN.{length, get_or, take, drop, get_or-map}
+use lib.Seq.{get_or-append-add, drop-cons}
+use Rattle.std.specs.List.{count_by, fold}
+use Rattle.std.proofs.lemmas.List.{get_or-drop, length-drop, drop-drop, take_all}
+use Rattle.std.proofs.lemmas.List.Sums.{sum_by-append, sum_by-cons}
 use Rattle.rules.specs.Word.{word, kind_of}
 use Rattle.rules.specs.Read.{head_of}
 use Rattle.cuts.proofs.Scan.{marked, scan, scan_add}
 use Rattle.cuts.proofs.ByKind.{is_set}
-use Rattle.sets.specs.declared.sought.Sought.{Sought}
-use Rattle.sets.specs.declared.sought.Sought.TheVariants.{Set, EndOfDerivatives, EndOfFinancing}
-use Rattle.sets.specs.Search.{place_from, bits_from, passes, quiet}
+use Rattle.sets.specs.Search.{place_from}
 
 -- ---- so many words from a place on
 
@@ -39,27 +40,28 @@ module _ (test : ℕ → Bool) (ws : List ℕ) where
   scan_silent zero at f = refl
   scan_silent (suc n) at f = rw (f at (omega arith) (omega arith)) (scan_silent n (suc at) (λ i l m. f i (omega arith) (omega arith)))
 
-  -- no more are found than there are
-  pub scan_few : (n at : ℕ) → length (scan test ws at n) ≤ n
+  -- as many are found as pass of those words
+  pub scan_counts : (n at : ℕ) → at + n ≤ length ws → length (scan test ws at n) ≡ count_by (λ w. test (kind_of w)) (take n (drop at ws))
   unfolding scan
-  scan_few zero at = omega arith
-  scan_few (suc n) at = go (test (kind_of (word ws at))) (scan_few n (suc at))
+  scan_counts zero at h = refl
+  scan_counts (suc n) at h =
+      rw (drop-cons ws at 0 (omega arith), sum_by-cons (λ w. cond (test (kind_of w)) 1 0) (word ws at) (take n (drop (suc at) ws))) (go (test (kind_of (word ws at))) (scan_counts n (suc at) (omega arith)))
     where
-      go : (b : Bool) → length (scan test ws (suc at) n) ≤ n → length (marked b at ++ scan test ws (suc at) n) ≤ suc n
+      go : (b : Bool) → length (scan test ws (suc at) n) ≡ count_by (λ w. test (kind_of w)) (take n (drop (suc at) ws))
+          → length (marked b at ++ scan test ws (suc at) n) ≡ cond b 1 0 + count_by (λ w. test (kind_of w)) (take n (drop (suc at) ws))
       go true h = omega arith
       go false h = omega arith
 
-  -- they are counted one by one
-  count_word : (at to : ℕ) → at < to → length (scan test ws at (to - at)) ≡ cond (test (kind_of (word ws at))) 1 0 + length (scan test ws (at + 1) (to - (at + 1)))
-  count_word at to l = ap length (scan_word at to l) ∙ go (test (kind_of (word ws at)))
+  -- behind so many words the places count from there
+  scan_behind : (k n at : ℕ) → map (λ i. k + i) (scan test (drop k ws) at n) ≡ scan test ws (k + at) n
+  unfolding scan
+  scan_behind k zero at = refl
+  scan_behind k (suc n) at = rw (get_or-drop k ws at 0) (go (test (kind_of (word ws (k + at)))) (rw (add-suc k at) at (scan_behind k n (suc at))))
     where
-      go : (b : Bool) → length (marked b at ++ scan test ws (at + 1) (to - (at + 1))) ≡ cond b 1 0 + length (scan test ws (at + 1) (to - (at + 1)))
-      go true = omega arith
-      go false = omega arith
-
-  pub count_next : (at to count total : ℕ) → at < to → count + length (scan test ws at (to - at)) ≡ total → (b : Bool) → b ≡ test (kind_of (word ws at)) → (one : ℕ) → one ≡ cond b 1 0
-      → count + one + length (scan test ws (at + 1) (to - (at + 1))) ≡ total
-  count_next at to count total l h b e one q = let w = rw (← e, ← q) at (count_word at to l) in omega arith
+      go : (b : Bool) → map (λ i. k + i) (scan test (drop k ws) (suc at) n) ≡ scan test ws (suc (k + at)) n
+          → map (λ i. k + i) (marked b at ++ scan test (drop k ws) (suc at) n) ≡ marked b (k + at) ++ scan test ws (suc (k + at)) n
+      go true h = ap (λ (l : List ℕ). (k + at) ∷ l) h
+      go false h = h
 
 -- ---- the place that is looked for
 
@@ -74,27 +76,27 @@ module _ (test : ℕ → Bool) (ws : List ℕ) where
   place_here at l e = rw (scan_word test ws at (length ws) l, e)
 
   -- or one to be left behind
-  place_passed : (at n : ℕ) → at < length ws → test (kind_of (word ws at)) ≡ true → place_from test ws at (suc n) ≡ place_from test ws (at + 1) n
+  pub place_passed : (at n : ℕ) → at < length ws → test (kind_of (word ws at)) ≡ true → (n ≡ 0 → ⊥) → place_from test ws at n ≡ place_from test ws (at + 1) (n - 1)
   unfolding place_from
-  place_passed at n l e = rw (scan_word test ws at (length ws) l, e)
+  place_passed at zero l e z = absurd (z refl)
+  place_passed at (suc n) l e z = let s : suc n - 1 ≡ n = omega arith in rw (s, scan_word test ws at (length ws) l, e)
 
   -- it does not pass
-  place_other : (at n : ℕ) → at < length ws → test (kind_of (word ws at)) ≡ false → place_from test ws at n ≡ place_from test ws (at + 1) n
+  pub place_other : (at n : ℕ) → at < length ws → test (kind_of (word ws at)) ≡ false → place_from test ws at n ≡ place_from test ws (at + 1) n
   unfolding place_from
   place_other at n l e = rw (scan_word test ws at (length ws) l, e)
 
-  -- A WORD that is not the one: behind it there is one less to be left behind if it passes
-  pub place_next : (at n : ℕ) → at < length ws → (b : Bool) → b ≡ test (kind_of (word ws at)) → (b && eqb n 0) ≡ false → (m : ℕ) → m ≡ n - cond b 1 0
-      → place_from test ws (at + 1) m ≡ place_from test ws at n
-  place_next at zero l true e f m q = let z : ◌≡◌ {A = ℕ} 0 1 = cc in absurd (omega arith)
-  place_next at (suc n) l true e f m q = let one : m ≡ n = omega arith in rw one (sym (place_passed at n l (sym e)))
-  place_next at n l false e f m q = let same : m ≡ n = omega arith in rw same (sym (place_other at n l (sym e)))
-
-  -- and one that is
-  pub place_found : (at n : ℕ) → at < length ws → (b : Bool) → b ≡ test (kind_of (word ws at)) → (b && eqb n 0) ≡ true → place_from test ws at n ≡ at
-  place_found at zero l true e f = place_here at l (sym e)
-  place_found at (suc n) l true e f = absurd (omega (arith, eqb-true (suc n) 0 f))
-  place_found at n l false e f = let z : ◌≡◌ {A = ℕ} 0 1 = cc in absurd (omega arith)
+  -- and so it is where the words behind some are a list of their own
+  pub place_behind : (k n : ℕ) → k ≤ length ws → k + place_from test (drop k ws) 0 n ≡ place_from test ws k n
+  unfolding place_from
+  place_behind k n l =
+      let s : k + (length ws - k) ≡ length ws = omega arith in
+      let z : length ws - k - 0 ≡ length ws - k = omega arith in
+      rw (length-drop k ws, z) (
+      sym (get_or-map (λ i. k + i) (scan test (drop k ws) 0 (length ws - k)) n (length ws - k))
+      ∙ ap (λ (x : List ℕ). get_or x n (k + (length ws - k))) (scan_behind test ws k (length ws - k) 0 ∙ rw (add-zero k))
+      ∙ ap (get_or (scan test ws k (length ws - k)) n) s
+      )
 
   -- A BLOCK with no more that pass than are to be left behind
   place_block : (at k n : ℕ) → at + k ≤ length ws → length (scan test ws at k) ≤ n → place_from test ws at n ≡ place_from test ws (at + k) (n - length (scan test ws at k))
@@ -106,8 +108,8 @@ module _ (test : ℕ → Bool) (ws : List ℕ) where
       (ap (λ (i : ℕ). get_or (scan test ws at k ++ scan test ws (at + k) (length ws - (at + k))) i (length ws)) m
       ∙ get_or-append-add (scan test ws at k) (scan test ws (at + k) (length ws - (at + k))) (n - length (scan test ws at k)) (length ws))
 
-  pub place_behind : (at k n found : ℕ) → at + k ≤ length ws → found ≡ length (scan test ws at k) → found ≤ n → place_from test ws (at + k) (n - found) ≡ place_from test ws at n
-  place_behind at k n found l e few = rw e (sym (place_block at k n l (omega arith)))
+  pub place_after : (at k n found : ℕ) → at + k ≤ length ws → found ≡ length (scan test ws at k) → found ≤ n → place_from test ws (at + k) (n - found) ≡ place_from test ws at n
+  place_after at k n found l e few = rw e (sym (place_block at k n l (omega arith)))
 
   -- it lies between where the search began and the book's end
   abbrev Between : List ℕ → (n low high : ℕ) → Type 0
@@ -127,60 +129,81 @@ module _ (test : ℕ → Bool) (ws : List ℕ) where
   unfolding place_from
   place_within at n l = let s : at + (length ws - at) ≡ length ws = omega arith in rw s at (nth_within (length ws - at) at n)
 
+-- ---- the rest of a book, from a place on
+
+module _ (ws : List ℕ) where
+  abbrev pub IsRest : List ℕ → Type 0
+  IsRest rest = (length rest ≤ length ws) × (rest ≡ drop (length ws - length rest) ws)
+
+  abbrev pub begin_of : List ℕ → ℕ
+  begin_of rest = length ws - length rest
+
+  -- it is what a slice from there on holds
+  pub rest_from : (at : ℕ) (rest : List ℕ) → at ≤ length ws → rest ≡ take (length ws - at) (drop at ws) → IsRest rest × (begin_of rest ≡ at)
+  rest_from at rest h e =
+      let whole : rest ≡ drop at ws = e ∙ take_all (length ws - at) (drop at ws) (omega (arith, length-drop at ws)) in
+      let size : length rest ≡ length ws - at = ap length whole ∙ length-drop at ws in
+      let begins : length ws - length rest ≡ at = omega arith in
+      ((omega arith, rw begins whole), begins)
+
+  -- behind the words up to the end nothing is found, wherever they begin
+  pub place_capped : (test : ℕ → Bool) (from at ordinal : ℕ) → at ≡ min from (length ws) → place_from test ws at ordinal ≡ place_from test ws from ordinal
+  place_capped test from at ordinal e = go (leb from (length ws)) refl
+    where
+      go : (b : Bool) → leb from (length ws) ≡ b → place_from test ws at ordinal ≡ place_from test ws from ordinal
+      go true h = let same : at ≡ from = omega (arith, leb-true from (length ws) h) in rw same refl
+      go false h = let over = leb-false from (length ws) h in place_over test ws at ordinal (omega arith) ∙ sym (place_over test ws from ordinal (omega arith))
+
+  module _ (rest : List ℕ) (k : ℕ) (r : IsRest rest) (l : k ≤ length rest) (behind : List ℕ) (e : behind ≡ drop k rest) where
+    later : length behind ≡ length rest - k
+    later = ap length e ∙ length-drop k rest
+
+    begins_later : begin_of behind ≡ begin_of rest + k
+    begins_later = omega (arith, later, r.0)
+
+    pub rest_behind : IsRest behind
+    rest_behind = (omega (arith, later, r.0), e ∙ ap (drop k) r.1 ∙ drop-drop k (begin_of rest) ws ∙ ap (λ (i : ℕ). drop i ws) (sym begins_later))
+
+    -- where no more of its first words pass than are to be left behind
+    pub block_passed : (test : ℕ → Bool) (n found : ℕ) → found ≡ count_by (λ w. test (kind_of w)) (take k rest) → found ≤ n
+        → place_from test ws (begin_of behind) (n - found) ≡ place_from test ws (begin_of rest) n
+    block_passed test n found f few =
+        let same : found ≡ length (scan test ws (begin_of rest) k) =
+        f ∙ ap (λ (x : List ℕ). count_by (λ w. test (kind_of w)) (take k x)) r.1 ∙ sym (scan_counts test ws k (begin_of rest) (omega (arith, r.0))) in
+        rw begins_later (place_after test ws (begin_of rest) k n found (omega (arith, r.0)) same few)
+
+  -- what is found in it
+  pub rest_place : (test : ℕ → Bool) (rest : List ℕ) (n place : ℕ) → IsRest rest → place ≡ place_from test rest 0 n → begin_of rest + place ≡ place_from test ws (begin_of rest) n
+  rest_place test rest n place r e =
+      rw e (ap (λ (x : List ℕ). begin_of rest + place_from test x 0 n) r.1 ∙ place_behind test ws (begin_of rest) n (omega (arith, r.0)))
+
 -- ---- the bits of so many words
 
 or_least : (a b : ℕ) → a ≤ bit_or a b
 or_least a b = omega (arith, or_add_and a b, and_le_r a b)
 
-module _ (ws : List ℕ) where
-  pub bits_word : (bits at to : ℕ) → at < to → bits_from bits ws at (to - at) ≡ bits_from (bit_or bits (word ws at)) ws (at + 1) (to - (at + 1))
-  unfolding bits_from
-  bits_word bits at to l =
-      let s : to - at ≡ suc (to - suc at) = omega arith in
-      rw (s, add-one at)
+-- as a number they are no less than those before
+bits_least : (bits : ℕ) (ws : List ℕ) → bits ≤ fold bit_or bits ws
+bits_least bits [] = omega arith
+bits_least bits (w ∷ ws) = omega (arith, or_least bits w, bits_least (bit_or bits w) ws)
 
-  pub bits_none : (bits at to : ℕ) → to ≤ at → bits_from bits ws at (to - at) ≡ bits
-  unfolding bits_from
-  bits_none bits at to l = let s : to - at ≡ 0 = omega arith in rw s
+-- so where none passes that is no more than they are, none of the words does
+pub quiet_counts : (test : ℕ → Bool) (bits : ℕ) (ws : List ℕ) → ((w : ℕ) → w ≤ fold bit_or bits ws → test (kind_of w) ≡ false) → count_by (λ w. test (kind_of w)) ws ≡ 0
+quiet_counts test bits [] q = refl
+quiet_counts test bits (w ∷ ws) q =
+    rw (sum_by-cons (λ w. cond (test (kind_of w)) 1 0) w ws, q w (omega (arith, or_least w bits, or_comm w bits, bits_least (bit_or bits w) ws))) (omega (arith, quiet_counts test (bit_or bits w) ws q))
 
-  -- as a number they are no less than any of the words
-  bits_least : (n bits at : ℕ) → bits ≤ bits_from bits ws at n
-  unfolding bits_from
-  bits_least zero bits at = omega arith
-  bits_least (suc n) bits at = omega (arith, or_least bits (word ws at), bits_least n (bit_or bits (word ws at)) (suc at))
+-- below bit 30 no word is a set's
+pub no_set_below : (w bits : ℕ) → w ≤ bits → bits < 2 ^ 30 → is_set (kind_of w) ≡ false
+no_set_below w bits h l = let k : kind_of w < 4 = omega arith in rw (ne_eqb (kind_of w) 4 (λ e. omega arith), ne_eqb (kind_of w) 8 (λ e. omega arith))
 
-  bits_cover : (n k bits at : ℕ) → k < n → word ws (at + k) ≤ bits_from bits ws at n
-  unfolding bits_from
-  bits_cover zero k bits at l = absurd (omega arith)
-  bits_cover (suc n) zero bits at l = rw (add-zero at) (omega (arith, or_least (word ws at) bits, or_comm (word ws at) bits, bits_least n (bit_or bits (word ws at)) (suc at)))
-  bits_cover (suc n) (suc k) bits at l = rw (add-suc at k, ← suc-add at k) (bits_cover n k (bit_or bits (word ws at)) (suc at) (omega arith))
-
-  -- SO WHERE THEY HAVE NEITHER BIT 30 NOR BIT 31 none of the words is a set's
-  quiet_scan : (at n : ℕ) → bits_from 0 ws at n < 2 ^ 30 → scan is_set ws at n ≡ []
-  quiet_scan at n l = scan_silent is_set ws n at (λ i h m. let s : at + (i - at) ≡ i = omega arith in low (word ws i) (omega (arith, rw s at (bits_cover n (i - at) 0 at (omega arith)))))
-    where
-      low : (w : ℕ) → w < 2 ^ 30 → is_set (kind_of w) ≡ false
-      low w l = let k : kind_of w < 4 = omega arith in rw (ne_eqb (kind_of w) 4 (λ e. omega arith), ne_eqb (kind_of w) 8 (λ e. omega arith))
-
-  quiet_found : (sought : Sought) (at n : ℕ) → quiet sought (bits_from 0 ws at n) ≡ true → scan (passes sought) ws at n ≡ []
-  quiet_found Set at n e = quiet_scan at n (ltb-true (bits_from 0 ws at n) (2 ^ 30) e)
-  quiet_found EndOfDerivatives at n e = let z : ◌≡◌ {A = ℕ} 0 1 = cc in absurd (omega arith)
-  quiet_found EndOfFinancing at n e = let z : ◌≡◌ {A = ℕ} 0 1 = cc in absurd (omega arith)
+-- both parts of a block
+pub both_quiet : (test : ℕ → Bool) (near far block : List ℕ) → near ++ far ≡ block → ((w : ℕ) → w ≤ fold bit_or 0 near → test (kind_of w) ≡ false) → ((w : ℕ) → w ≤ fold bit_or 0 far → test (kind_of w) ≡ false)
+    → 0 ≡ count_by (λ w. test (kind_of w)) block
+both_quiet test near far block e p q = rw (← e, sum_by-append (λ w. cond (test (kind_of w)) 1 0) near far, quiet_counts test 0 near p, quiet_counts test 0 far q) refl
 
 -- ---- where the items begin: not far behind the head
 
 pub few_protections : (ws : List ℕ) → (head_of ws).protections < 2 ^ 28
 unfolding head_of
 few_protections ws = omega arith
-
--- ---- a block of 64 words, of which 32 are looked at first
-
-module _ (ws : List ℕ) (sought : Sought) (at : ℕ) where
-  pub block_count : length (scan (passes sought) ws at (at + 64 - at)) ≡ length (scan (passes sought) ws at 64)
-  block_count = let n : at + 64 - at ≡ 64 = omega arith in rw n
-
-  pub quiet_block : quiet sought (bits_from 0 ws at (at + 32 - at)) ≡ true → quiet sought (bits_from 0 ws (at + 32) (at + 64 - (at + 32))) ≡ true → 0 ≡ length (scan (passes sought) ws at 64)
-  quiet_block e f =
-      let n : at + 32 - at ≡ 32 = omega arith in
-      let m : at + 64 - (at + 32) ≡ 32 = omega arith in
-      rw (scan_add (passes sought) ws 32 32 at, quiet_found ws sought at 32 (rw n at e), quiet_found ws sought (at + 32) 32 (rw m at f))

@@ -12,23 +12,25 @@ use lib.Dec.{eqb}
 use lib.ListN.{length, get_or, get_elem?}
 use denote.Ref.{Bor}
 use Rattle.rules.specs.declared.Bands.{Bands}
-use Rattle.rules.specs.declared.Entry.{Entry}
 use Rattle.rules.specs.Word.{word, kind_of}
 use Rattle.rules.specs.Book.{Item, asset, derivatives, financing, off_balance, Placed}
 use Rattle.rules.specs.Read.{head_of, items_of}
-use Rattle.rules.specs.Filing.{Outcome, early, refused, accepted, admission, outcome_of, register_after}
+use Rattle.rules.specs.Filing.{Outcome, early, refused, accepted, admission, outcome_of}
 use Rattle.laws.proofs.Accepted.{accepted_is}
-use Rattle.reading.specs.declared.Admission.{Admission}
+use Rattle.std.specs.Prelude.{Result, Err}
+use Rattle.rules.specs.declared.Sums.{Sums}
+use Rattle.rules.specs.declared.causes.Refusal.{Refusal}
+use Rattle.rules.specs.Numbers.{cause_number}
+use Rattle.reading.specs.Admission.{Admission}
+use Rattle.reading.specs.Admission.{Admitted, Refused}
 use Rattle.filing.specs.Answers.{admission_of}
 use Rattle.cuts.proofs.Cutting.{kind_of_item, items_begin, here_kind, here_onward, item_stands, StandsIn, book_cut}
 use Rattle.cuts.proofs.ByKind.{begins, picked, opens, sets_by_kind}
 use Rattle.cuts.proofs.ByKind as by_kind
 use Rattle.cuts.proofs.EachWord.{item_next, inside_closed, inside_own}
-use Rattle.sets.specs.declared.Shown.{Shown}
-use Rattle.sets.specs.Sets.{is_set, sets_of, shown_set, shown_in, showing, VeryStretch}
-use Rattle.sets.specs.Search.{leaves_financing, passes, end_of, place_from, found_at, found_in}
-use Rattle.sets.proofs.SearchLaws.{scan_silent, place_here, place_behind}
-use Rattle.sets.proofs.FoundLaws.{very_same}
+use Rattle.sets.specs.Sets.{is_set, sets_of, shown_set, shown_in, showing}
+use Rattle.sets.specs.Search.{leaves_financing, ends, place_from, found_at, found_in, Shows}
+use Rattle.sets.proofs.SearchLaws.{scan_silent, place_here, place_after}
 
 -- ---- the sets by kind are the sets
 
@@ -90,7 +92,7 @@ ends_at : (test : ℕ → Bool) (ws : List ℕ) (begin end : ℕ) → begin < en
 ends_at test ws begin end l m inside t =
     let n : begin + 1 + (end - (begin + 1)) ≡ end = omega arith in
     let silent = scan_silent test ws (end - (begin + 1)) (begin + 1) (λ i h k. inside i (omega arith) (omega arith)) in
-    let past = place_behind test ws (begin + 1) (end - (begin + 1)) 0 0 (omega arith) (sym (ap length silent)) (omega arith) in
+    let past = place_after test ws (begin + 1) (end - (begin + 1)) 0 0 (omega arith) (sym (ap length silent)) (omega arith) in
     sym past ∙ ap (λ (i : ℕ). place_from test ws i 0) n ∙ place_here test ws end m t
 
 -- what opens an item is no amount and no financing trade
@@ -110,7 +112,7 @@ module _ (ws : List ℕ) (p : Placed) (here : StandsIn ws p) (last : p.end < len
   onward : p.begin < p.end
   onward = (here_onward ws p.begin p p.end here.here).0
 
-  set_ends : (i : Item) → p.item ≡ i → is_set i ≡ true → place_from (passes (end_of (kind_of_item i))) ws (p.begin + 1) 0 ≡ p.end
+  set_ends : (i : Item) → p.item ≡ i → is_set i ≡ true → place_from (ends (kind_of_item i)) ws (p.begin + 1) 0 ≡ p.end
   set_ends (derivatives s) e t = ends_at opens ws p.begin p.end onward last (inside_closed ws p.begin p p.end here.here) next
   set_ends (financing s) e t =
       ends_at leaves_financing ws p.begin p.end onward last
@@ -131,9 +133,9 @@ found_set ws e n = ap (found_at ws) (begin_found ws e n) ∙ go (get_elem? (sets
         let here = item_stands ws e a.0.front p a.0.back a.0.are in
         let next = item_next ws e a.0.front p a.0.back a.0.are in
         let last : p.end < length ws = omega (arith, here.to, (book_cut ws e).end.last) in
-        let ends = set_ends ws p here last next p.item refl a.1 in
+        let over = set_ends ws p here last next p.item refl a.1 in
         let begins : p.begin < length ws = omega (arith, onward ws p here last next) in
-        rw (lt-ltb p.begin (length ws) begins, here_kind ws p.begin p p.end here.here, ends)
+        rw (lt-ltb p.begin (length ws) begins, here_kind ws p.begin p p.end here.here, over)
 
 -- and so it is for every book, as far as it came
 pub found_showing : (ws : List ℕ) (ordinal entries : ℕ) (bands : Bands) (a : Admission) → a ≡ admission_of bands (admission ws entries) → found_in ws ordinal a ≡ showing ws ordinal entries
@@ -147,13 +149,13 @@ found_showing ws ordinal entries bands a q = rw q (go (admission ws entries) ref
         let r = (accepted_is ws 22 entries items left e).reading in
         found_set ws r.number ordinal ∙ ap (λ (l : List Placed). shown_set (get_elem? (sets_of l) ordinal)) r.read
 
--- ---- what the calls of `admit` and of `answer` say together
+-- ---- as the code answers it
 
-pub shown_all : (book : Bor (List ℕ)) (ordinal entries : ℕ) (ys zs : List Entry) (a : Admission) → a ≡ admission_of (head_of book.now).bands (admission book.now entries)
-    → zs ≡ register_after (head_of book.now) (admission book.now entries) ys
-    → (r : Bor (List ℕ)) (number place : ℕ) → VeryStretch book (found_in book.now ordinal a) r × ((number ≡ (found_in book.now ordinal a).number) × (place ≡ (found_in book.now ordinal a).place))
-    → VeryStretch book (showing book.now ordinal entries) r × ((number ≡ (showing book.now ordinal entries).number) × ((place ≡ (showing book.now ordinal entries).place)
-    × (zs ≡ register_after (head_of book.now) (admission book.now entries) ys)))
-shown_all book ordinal entries ys zs a q z r number place (v, (n, p)) =
-    let e = found_showing book.now ordinal entries (head_of book.now).bands a q in
-    (very_same book r _ _ e v, (n ∙ ap (λ (s : Shown). s.number) e, (p ∙ ap (λ (s : Shown). s.place) e, z)))
+module _ (book : Bor (List ℕ)) (ordinal entries : ℕ) where
+  pub shows_refused : (r : Refusal) → Refused (cause_number r.cause) r.place ≡ admission_of (head_of book.now).bands (admission book.now entries)
+      → Shows book (showing book.now ordinal entries) (Err r)
+  shows_refused r q = sym (found_showing book.now ordinal entries (head_of book.now).bands (Refused (cause_number r.cause) r.place) q)
+
+  pub shows_found : (s : Sums) → Admitted s ≡ admission_of (head_of book.now).bands (admission book.now entries) → (r : Result (Bor (List ℕ)) Refusal)
+      → Shows book (found_at book.now (place_from by_kind.is_set book.now (items_begin book.now) ordinal)) r → Shows book (showing book.now ordinal entries) r
+  shows_found s q r h = rw (found_showing book.now ordinal entries (head_of book.now).bands (Admitted s) q) at h

@@ -5,8 +5,7 @@ use Rattle.rules.specs.Word.{word, kind_of}
 use Rattle.rules.specs.Read.{head_of, items_of}
 use Rattle.rules.specs.Filing.{admission, register_after, filing}
 use Rattle.cuts.proofs.ByKind as by_kind
-use Rattle.sets.specs.declared.Shown.{Shown}
-use Rattle.sets.specs.Sets.{sets_of, turned_away, showing}
+use Rattle.sets.specs.Sets.{Shown, sets_of, turned_away, showing}
 
 -- ---- beside a filing of the same book with the same register, and with rows enough
 

@@ -2,8 +2,7 @@
 use Rattle.std.specs.Prelude.{ℕ, ◌+◌, ◌-◌, ◌^◌, ◌≡◌, List, [], ◌∷◌, ◌++◌, map}
 use Rattle.cuts.proofs.Written.{book_of}
 use Rattle.cuts.proofs.SampleBooks.{head_word, sample_front, an_asset, empty_set, a_set, a_credit, a_cover, empty_financing, a_financing_trade, a_commitment, book_with}
-use Rattle.sets.specs.declared.Shown.{Shown}
-use Rattle.sets.specs.Sets.{turned_away, showing}
+use Rattle.sets.specs.Sets.{Shown, turned_away, showing}
 
 -- a book, an ordinal and how many entries are lent, and what is shown
 pub record Case : Type 0 where

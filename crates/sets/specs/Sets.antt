@@ -5,7 +5,13 @@ use Rattle.std.proofs.Math.ListN.{get_elem?}
 use Rattle.std.specs.Borrow.{Bor}
 use Rattle.rules.specs.Book.{Item, asset, derivatives, financing, off_balance, Placed}
 use Rattle.rules.specs.Filing.{Outcome, early, refused, accepted, admission}
-use Rattle.sets.specs.declared.Shown.{Shown}
+
+-- the number and the place that are answered, and the stretch: the place in the book of its first word, and the place after its last
+pub record Shown : Type 0 where
+  pub number : ℕ
+  pub place : ℕ
+  pub begin : ℕ
+  pub end : ℕ
 
 -- "counting kinds 4 and 8 together"
 abbrev pub is_set : Item → Bool

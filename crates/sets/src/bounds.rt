@@ -1,73 +1,61 @@
 // From where to where in the book a set goes.
-ghost use Rattle.std.specs.Prelude.{◌≡◌};
+ghost use Rattle.std.specs.Prelude.{◌≡◌, ◌+◌, ◌≤◌, ◌<◌, length};
+ghost use Rattle.rules.specs.Word.{kind_of, word};
 ghost use Rattle.cuts.proofs.Cutting.{items_begin};
 ghost use Rattle.cuts.proofs.ByKind as by_kind;
-ghost use Rattle.sets.specs.Sets.{VeryStretch, turned_away};
-ghost use Rattle.sets.specs.Search.{found_at, found_in, place_from, Within};
+ghost use Rattle.sets.specs.Search.{ends, found_at, place_from, IsPlace, Shows, Within};
 
-use crate::Shown;
+use crate::kinds::{below_sets, leaves_financing, opens_item, opens_set, unasked};
 use crate::search::search;
-use crate::sought::{Sought, end_of};
 use heads::head::protections_of;
-use reading::Admission;
-use rules::{causes, lengths, limits};
+use rules::causes::{Cause, Refusal};
+use rules::kinds::Kind;
+use rules::{lengths, limits};
+use words::parts::is_kind;
 
-// "An ordinal with no set is refused 15".
-pub const NO_SUCH_SET: u32 = 15;
-
-// "Every refusal hands back an empty stretch".
-fn turned_away(number: u32, place: usize) -> Shown
-    ensures { result ≡ turned_away number place }
-{
-    Shown {
-        number,
-        place,
-        begin: 0,
-        end: 0,
-    }
-}
+// "An ordinal with no set is refused 15 ... with place 0".
+pub const NO_SUCH_SET: Refusal = Refusal {
+    cause: Cause::NoSuchSet,
+    place: 0,
+};
 
 // Where the items begin: behind the head and its protections, of which no word is an item's.
+#[tactic(auto, using(crate::proofs::SearchLaws::few_protections))]
 pub fn items_begin(book: &[u32]) -> usize
     ensures { result ≡ items_begin book.now }
 {
     limits::FIRST_RECORD + lengths::PROTECTION * protections_of(book)
 }
 
-// The set of an ordinal from 0, if there is one.
-fn find_set(book: &[u32], ordinal: usize) -> Shown
-    ensures { (result ≡ found_at book.now (place_from by_kind.is_set book.now (items_begin book.now) ordinal))
-        × Within book.now result }
+// Where the set of an ordinal from 0 begins, if there is one. Stretches of assets alone are seen by their bits to have none.
+pub fn set_begin(book: &[u32], ordinal: usize) -> Option<usize>
+    ensures { IsPlace (length book.now) (place_from by_kind.is_set book.now (items_begin book.now) ordinal) result }
 {
-    let begin = search(book, items_begin(book), ordinal, Sought::Set);
-    if begin < book.len() {
-        let end = search(book, begin + 1, 0, end_of(book[begin]));
-        return Shown {
-            number: causes::NONE,
-            place: 0,
-            begin,
-            end,
-        };
-    }
-    turned_away(NO_SUCH_SET, 0)
+    search(book, items_begin(book), ordinal, opens_set, below_sets)
 }
 
-// "15, after all of the book's refusals": of a refused book no set is looked for.
-pub fn bounds(book: &[u32], ordinal: usize, a: Admission) -> Shown
-    ensures { (result ≡ found_in book.now ordinal a) × Within book.now result }
+// Where the set ends that begins at a place. Behind a financing set two kinds are looked at instead of five, which is faster.
+fn set_end(book: &[u32], begin: usize) -> usize
+    requires { begin < length book.now }
+    ensures { (result ≡ place_from (ends (kind_of (word book.now begin))) book.now (begin + 1) 0)
+        × ((begin < result) × (result ≤ length book.now)) }
 {
-    match a {
-        Admission::Refused { number, place } => turned_away(number, place),
-        Admission::Admitted(_) => find_set(book, ordinal),
-    }
+    let next = if is_kind(book[begin], Kind::FinancingSet) {
+        search(book, begin + 1, 0, leaves_financing, unasked)
+    } else {
+        search(book, begin + 1, 0, opens_item, unasked)
+    };
+    next.unwrap_or(book.len())
 }
 
-// That very stretch of the lent book.
-pub fn part<'a>(book: &'a [u32], s: Shown) -> &'a [u32]
-    requires { Within book.now s }
-    ensures { VeryStretch book.entry s result }
+// The words of the set of an ordinal from 0, if there is one: that very stretch of the lent book.
+pub fn find_set<'a>(book: &'a [u32], ordinal: usize) -> Result<&'a [u32], Refusal>
+    ensures { Shows book.entry (found_at book.now (place_from by_kind.is_set book.now (items_begin book.now) ordinal)) result
+        × Within book.now (found_at book.now (place_from by_kind.is_set book.now (items_begin book.now) ordinal)) }
 {
-    let begin = s.begin;
-    let end = s.end;
-    &book[begin..end]
+    let Some(begin) = set_begin(book, ordinal) else {
+        return Err(NO_SUCH_SET);
+    };
+    let end = set_end(book, begin);
+    Ok(&book[begin..end])
 }

@@ -1,10 +1,9 @@
-// A search by kinds: block by block, then word by word.
-ghost use Rattle.std.specs.Prelude.{cond, ◌≡◌, ◌+◌, ◌-◌, ◌≤◌, length};
-ghost use Rattle.cuts.proofs.Scan.{scan};
-ghost use Rattle.sets.specs.Search.{bits_from, passes, place_from, quiet};
-
-use crate::sought::{Sought, is_sought};
-use words::numbers::{both, one_if};
+// A search by kinds: block by block, then word by word. The caller brings the two tests, and the code of a search is made for them.
+ghost use Rattle.std.specs.Prelude.{◌≡◌, ◌≤◌, ◌<◌, ℕ, Bool, IfSome, count_by, length};
+ghost use Rattle.std.specs.List.{fold};
+ghost use Rattle.std.specs.Int.Bits.{bit_or};
+ghost use Rattle.rules.specs.Word.{kind_of};
+ghost use Rattle.sets.specs.Search.{place_from, IsPlace, IsQuiet, Tells};
 
 // The words that are counted together, of which the machine takes several at once.
 const BLOCK: usize = 64;
@@ -12,124 +11,83 @@ const BLOCK: usize = 64;
 // The first words of a block, by which it is seen whether the bits of the others are worth a look.
 const GLANCE: usize = 32;
 
-// The least word of a kind with bit 30 or 31, as those of sets are.
-const KINDS_FROM_4: u32 = 1 << 30;
-
-// Where a search stands, and how many words that pass are still to be left behind.
-#[derive(Clone, Copy)]
-struct Stand {
-    at: usize,
-    left: usize,
-}
-
 // The bits that any of these words has.
-fn bits_in(book: &[u32], from: usize, to: usize) -> u32
-    requires { to ≤ length book.now }
-    ensures { result ≡ bits_from 0 book.now from (to - from) }
+fn bits_in(words: &[u32]) -> u32
+    ensures { result ≡ fold bit_or 0 words.now }
 {
-    let mut bits = 0;
-    let mut at = from;
-    while at < to {
-        bits = bits | book[at];
-        at = at + 1;
-    }
-    bits
+    words.iter().fold(0, |bits, w| bits | *w)
 }
 
-// Whether the bits of these words show that none is sought, as in stretches of assets alone.
-fn quiet_in(book: &[u32], from: usize, to: usize, sought: Sought) -> bool
-    requires { to ≤ length book.now }
-    ensures { result ≡ quiet sought (bits_from 0 book.now from (to - from)) }
+// How many of these words pass.
+fn count_in<F: Fn(u32) -> bool>(words: &[u32], passes: F) -> u32
+    requires callable { F.IsAlwaysCallable passes }
+    requires short { length words.now ≤ 64 }
+    ensures { (test : ℕ → Bool) → Tells F.Fn passes test → result ≡ count_by (λ w. test (kind_of w)) words.now }
 {
-    match sought {
-        Sought::Set => bits_in(book, from, to) < KINDS_FROM_4,
-        Sought::EndOfDerivatives => false,
-        Sought::EndOfFinancing => false,
-    }
+    words.iter().map(|w| u32::from(passes(*w))).sum()
 }
 
-// How many of these words are sought.
-fn count_in(book: &[u32], from: usize, to: usize, sought: Sought) -> u32
-    requires { (to ≤ length book.now) × (to - from ≤ 64) }
-    ensures { result ≡ length (scan (passes sought) book.now from (to - from)) }
+// The same of a whole block, where the bits of some words may show that none of them passes. Where those of its first words do not, it is
+// counted at once: to ask the others for their bits would save nothing.
+fn found_in<F: Fn(u32) -> bool, Q: Fn(u32) -> bool>(
+    block: &[u32; BLOCK],
+    passes: F,
+    quiet: Q,
+) -> u32
+    requires callable { F.IsAlwaysCallable passes }
+    requires askable { Q.IsAlwaysCallable quiet }
+    ensures { (test : ℕ → Bool) → Tells F.Fn passes test → IsQuiet Q.Fn quiet test → result ≡ count_by (λ w. test (kind_of w)) block.now }
 {
-    let mut count = 0;
-    let mut at = from;
-    while at < to {
-        count = count + one_if(is_sought(book[at], sought));
-        at = at + 1;
-    }
-    count
-}
-
-// The same of a whole block. Where one of its first words has bit 30 or 31 it is counted at once: to ask the others for their bits would
-// save nothing.
-fn found_in(book: &[u32], at: usize, sought: Sought) -> u32
-    requires { at + 64 ≤ length book.now }
-    ensures { result ≡ length (scan (passes sought) book.now at 64) }
-{
-    let near = at + GLANCE;
-    let to = at + BLOCK;
-    if quiet_in(book, at, near, sought) {
-        if quiet_in(book, near, to, sought) {
+    let (near, far) = block.split_at(GLANCE);
+    if quiet(bits_in(near)) {
+        if quiet(bits_in(far)) {
             return 0;
         }
     }
-    count_in(book, at, to, sought)
+    count_in(block, passes)
 }
 
-// Past all blocks that do not hold the word that is looked for.
-fn past_blocks(book: &[u32], from: usize, ordinal: usize, sought: Sought) -> Stand
-    ensures { place_from (passes sought) book.now result.at result.left ≡ place_from (passes sought) book.now from ordinal }
+// Where the word of this ordinal stands among those that pass, one by one.
+fn one_by_one<F: Fn(u32) -> bool>(words: &[u32], ordinal: usize, passes: F) -> Option<usize>
+    requires { F.IsAlwaysCallable passes }
+    ensures within { IfSome result (λ at. at < length words.now) }
+    ensures place { (test : ℕ → Bool) → Tells F.Fn passes test → IsPlace (length words.now) (place_from test words.now 0 ordinal) result }
 {
-    let mut at = from;
     let mut left = ordinal;
-    if book.len() < BLOCK {
-        return Stand { at, left };
+    for (i, w) in words.iter().enumerate() {
+        if passes(*w) {
+            if left == 0 {
+                return Some(i);
+            }
+            left -= 1;
+        }
     }
-    let last = book.len() - BLOCK;
-    while at <= last {
-        let found = found_in(book, at, sought) as usize;
+    None
+}
+
+// From a place on, where the word stands that has this ordinal, from 0, among those that pass. All blocks that do not
+// hold it are left behind.
+pub fn search<F: Fn(u32) -> bool + Copy, Q: Fn(u32) -> bool + Copy>(
+    book: &[u32],
+    from: usize,
+    ordinal: usize,
+    passes: F,
+    quiet: Q,
+) -> Option<usize>
+    requires callable { F.IsAlwaysCallable passes }
+    requires askable { Q.IsAlwaysCallable quiet }
+    ensures { (test : ℕ → Bool) → Tells F.Fn passes test → IsQuiet Q.Fn quiet test → IsPlace (length book.now) (place_from test book.now from ordinal) result }
+{
+    let mut rest = &book[from.min(book.len())..];
+    let mut left = ordinal;
+    while let Some((block, behind)) = rest.split_first_chunk::<BLOCK>() {
+        let found = found_in(block, passes, quiet) as usize;
         if found > left {
-            return Stand { at, left };
+            break;
         }
-        left = left - found;
-        at = at + BLOCK;
+        left -= found;
+        rest = behind;
     }
-    Stand { at, left }
-}
-
-// How many are still to be left behind, behind one word.
-fn behind(left: usize, found: bool) -> usize
-    ensures { result ≡ left - cond found 1 0 }
-{
-    if left == 0 {
-        return 0;
-    }
-    left - one_if(found) as usize
-}
-
-// Where the word that is looked for stands, one by one.
-fn one_by_one(book: &[u32], s: Stand, sought: Sought) -> usize
-    ensures { result ≡ place_from (passes sought) book.now s.at s.left }
-{
-    let mut at = s.at;
-    let mut left = s.left;
-    while at < book.len() {
-        let found = is_sought(book[at], sought);
-        if both(found, left == 0) {
-            return at;
-        }
-        left = behind(left, found);
-        at = at + 1;
-    }
-    book.len()
-}
-
-// From a place on, where the word stands that has this ordinal, from 0, among those that are sought; the book's length where there is none.
-pub fn search(book: &[u32], from: usize, ordinal: usize, sought: Sought) -> usize
-    ensures { result ≡ place_from (passes sought) book.now from ordinal }
-{
-    let near = past_blocks(book, from, ordinal, sought);
-    one_by_one(book, near, sought)
+    let at = one_by_one(rest, left, passes)?;
+    Some(book.len() - rest.len() + at)
 }

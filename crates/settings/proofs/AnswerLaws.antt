@@ -16,8 +16,8 @@ use Rattle.rules.specs.Rows.{sums_of}
 use Rattle.rules.specs.Filing.{Outcome, early, refused, accepted, admission, outcome_of}
 use Rattle.laws.specs.ReadAs.{ReadAs}
 use Rattle.laws.proofs.Accepted.{accepted_is}
-use Rattle.reading.specs.declared.Admission.{Admission}
-use Rattle.reading.specs.declared.Admission.TheVariants.{Admitted, Refused}
+use Rattle.reading.specs.Admission.{Admission}
+use Rattle.reading.specs.Admission.{Admitted, Refused}
 use Rattle.template.specs.Sections.{SumsFit}
 use Rattle.filing.specs.Answers.{admission_of}
 use Rattle.filing.proofs.FilingLaws.{admission_fits}
@@ -25,12 +25,12 @@ use Rattle.cuts.proofs.Grammar.{stands_by_kind}
 use Rattle.cuts.proofs.Cutting.{kind_of_item, items_begin, here_kind, item_stands}
 use Rattle.cuts.proofs.ByKind as by_kind
 use Rattle.sets.specs.Sets.{is_set, sets_of}
-use Rattle.sets.specs.Search.{place_from}
+use Rattle.std.proofs.Common.{None}
+use Rattle.sets.specs.Search.{place_from, IsPlace}
 use Rattle.sets.proofs.ClaimsHold.{sure}
 use Rattle.sets.proofs.SetLaws.{Among, nth_among, begin_or, begin_found}
-use Rattle.settings.specs.declared.Counted.{Counted}
-use Rattle.settings.specs.Settings.{verdict_with, counts_of, turned_away, counted_item, counted_set, counted_in, counting}
-use Rattle.settings.specs.Chosen.{IsAdmission, AdmittedBy, ChosenSet}
+use Rattle.settings.specs.Settings.{Counted, verdict_with, counts_of, turned_away, counted_item, counted_set, counted_in, counting}
+use Rattle.settings.specs.Chosen.{IsAdmission, ChosenSet}
 use Rattle.settings.proofs.Covers.{clash}
 
 -- ---- a book that was admitted is accepted
@@ -118,26 +118,34 @@ module _ (ws : List ℕ) (ordinal : ℕ) (register : List Entry) (sums : Sums) (
       go none e h = Found.nothing (answered e) (rw h (stands_none ws))
       go (some p) e h = let n = nth_among is.items ordinal p e in rw h (by_item p n.0 e p.item refl n.1)
 
-  module _ {head begin : ℕ} (bq : begin ≡ items_begin ws) (hq : head ≡ place_from by_kind.is_set ws begin ordinal) {b : Bool} (sq : b ≡ stands 4 ws head) where
+  -- the search finds no set
+  pub answered_none : IsPlace (length ws) (place_from by_kind.is_set ws (items_begin ws) ordinal) None → turned_away 15 0 ≡ counting ws ordinal register
+  answered_none n = go (found {head = length ws} refl (sym n))
+    where
+      go : Found ws ordinal register sums (length ws) → turned_away 15 0 ≡ counting ws ordinal register
+      go (Found.set c e s) = clash (sym s ∙ stands_none ws)
+      go (Found.nothing e s) = sym e
+
+  module _ {head : ℕ} (hq : head ≡ place_from by_kind.is_set ws (items_begin ws) ordinal) {b : Bool} (sq : b ≡ stands 4 ws head) where
     -- none stands there
-    pub answered_15 : not b ≡ true → {r : Counted} → r ≡ turned_away 15 0 → r ≡ counting ws ordinal register
-    answered_15 t {r} q = go (found bq hq)
+    pub answered_15 : not b ≡ true → turned_away 15 0 ≡ counting ws ordinal register
+    answered_15 t = go (found refl hq)
       where
-        go : Found ws ordinal register sums head → r ≡ counting ws ordinal register
+        go : Found ws ordinal register sums head → turned_away 15 0 ≡ counting ws ordinal register
         go (Found.set c e s) = clash (sym s ∙ sym sq ∙ not-true b t)
-        go (Found.nothing e s) = q ∙ sym e
+        go (Found.nothing e s) = sym e
 
     -- one does
     module _ (t : not b ≡ false) where
       pub chosen_there : ChosenSet ws register sums head
-      chosen_there = go (found bq hq)
+      chosen_there = go (found refl hq)
         where
           go : Found ws ordinal register sums head → ChosenSet ws register sums head
           go (Found.set c e s) = c
           go (Found.nothing e s) = clash (sym (not-false b t) ∙ sq ∙ s)
 
       pub answered_counts : {r : Counted} → ((register : List Entry) → ChosenSet ws register sums head → r ≡ counts_of (verdict_with ws register head)) → r ≡ counting ws ordinal register
-      answered_counts {r} q = go (found bq hq)
+      answered_counts {r} q = go (found refl hq)
         where
           go : Found ws ordinal register sums head → r ≡ counting ws ordinal register
           go (Found.set c e s) = q register c ∙ sym e
@@ -145,16 +153,11 @@ module _ (ws : List ℕ) (ordinal : ℕ) (register : List Entry) (sums : Sums) (
 
 -- ---- a refused book
 
-pub answered_refused : (ws : List ℕ) (ordinal : ℕ) (register : List Entry) (a : Admission) (number place : ℕ) → a ≡ Refused number place → IsAdmission ws register a
-    → {r : Counted} → r ≡ turned_away number place → r ≡ counting ws ordinal register
+pub answered_refused : (ws : List ℕ) (ordinal : ℕ) (register : List Entry) (number place : ℕ) → IsAdmission ws register (Refused number place) → turned_away number place ≡ counting ws ordinal register
 unfolding counting
-answered_refused ws ordinal register a number place e is {r} q = go (admission ws (length register)) refl (sym e ∙ is)
+answered_refused ws ordinal register number place is = go (admission ws (length register)) refl is
   where
-    go : (o : Outcome) → admission ws (length register) ≡ o → ◌≡◌ {A = Admission} (Refused number place) (admission_of (head_of ws).bands o) → r ≡ counted_in ws ordinal register (admission ws (length register))
-    go (early n) f h = let x : number ≡ n = cc in let y : place ≡ 0 = cc in q ∙ rw (f, x, y) refl
-    go (refused n p) f h = let x : number ≡ n = cc in let y : place ≡ p = cc in q ∙ rw (f, x, y) refl
+    go : (o : Outcome) → admission ws (length register) ≡ o → ◌≡◌ {A = Admission} (Refused number place) (admission_of (head_of ws).bands o) → turned_away number place ≡ counted_in ws ordinal register (admission ws (length register))
+    go (early n) f h = let x : number ≡ n = cc in let y : place ≡ 0 = cc in rw (f, x, y) refl
+    go (refused n p) f h = let x : number ≡ n = cc in let y : place ≡ p = cc in rw (f, x, y) refl
     go (accepted items left) f h = refused_not number place (sums_of (head_of ws).bands items) (sym h)
-
--- what was admitted is what it was admitted as
-pub admitted_as : (ws : List ℕ) (a : Admission) (sums : Sums) → a ≡ Admitted sums → AdmittedBy ws a → AdmittedBy ws (Admitted sums)
-admitted_as ws a sums e b = rw e at b

@@ -33,9 +33,8 @@ use Rattle.other_marks.specs.Claims.{LikeFiled}
 use Rattle.other_marks.proofs.Books.{sum_among, stands, begins_within, accepted_alike}
 use Rattle.weighing.specs.declared.tally.Tally.{Tally}
 use Rattle.weighing.specs.Gathered.{no_tally, plus_members, TallyRoomy, TallyFits}
-use Rattle.settings.specs.declared.Counted.{Counted}
 use Rattle.settings.specs.declared.exposure.Pieces.{Pieces}
-use Rattle.settings.specs.Settings.{leading, how_many, counts_of, verdict_with}
+use Rattle.settings.specs.Settings.{Counted, leading, how_many, counts_of, verdict_with}
 use Rattle.settings.specs.Members.{from_head, tally_from, SureMembers}
 use Rattle.settings.specs.Pieces.{net_in, kept_netted, pieces_of, offsets_in, exposed_by, verdict_by, PiecesFit, AllFit}
 use Rattle.settings.specs.Chosen.{ChosenSet}

@@ -9,9 +9,8 @@ use lib.IntN.{pos}
 use Rattle.rules.specs.Weigh.{sum_below}
 use Rattle.rules.specs.Ratio.{tier1_of, verdict_of}
 use Rattle.other_marks.specs.Marked.{settings}
-use Rattle.settings.specs.declared.Counted.{Counted}
 use Rattle.settings.specs.declared.exposure.Pieces.{Pieces}
-use Rattle.settings.specs.Settings.{leading, how_many, counts_of}
+use Rattle.settings.specs.Settings.{Counted, leading, how_many, counts_of}
 use Rattle.settings.specs.Pieces.{exposed_by, verdict_by, AllFit}
 
 module _ (verdicts : ℕ → ℕ) (verdict : ℕ) where
@@ -49,14 +48,24 @@ module _ (verdicts : ℕ → ℕ) (met missed none m : ℕ) (c : Counting verdic
     (omega (arith, c.missed, c.within, leading_within verdicts 1 m), omega (arith, c.none, c.within, leading_within verdicts 2 m)),
   )
 
-  pub counting_on : m < settings → {v x y z : ℕ} → v ≡ verdicts m → x ≡ cond (eqb v 0) 1 0 → y ≡ cond (eqb v 1) 1 0 → z ≡ cond (eqb v 2) 1 0
+  -- one setting more, by its verdict
+  counting_on : m < settings → (x y z : ℕ) → x ≡ cond (eqb (verdicts m) 0) 1 0 → y ≡ cond (eqb (verdicts m) 1) 1 0 → z ≡ cond (eqb (verdicts m) 2) 1 0
       → Counting verdicts (met + x) (missed + y) (none + z) (m + 1)
-  counting_on l q xq yq zq = record {
-    met = leading_next verdicts 0 m met c.met q xq;
-    missed = leading_next verdicts 1 m missed c.missed q yq;
-    none = leading_next verdicts 2 m none c.none q zq;
+  counting_on l x y z xq yq zq = record {
+    met = leading_next verdicts 0 m met c.met refl xq;
+    missed = leading_next verdicts 1 m missed c.missed refl yq;
+    none = leading_next verdicts 2 m none c.none refl zq;
     within = omega arith;
   }
+
+  pub counting_met : m < settings → 0 ≡ verdicts m → Counting verdicts (met + 1) missed none (m + 1)
+  counting_met l v = let r = counting_on l 1 0 0 (rw (← v) refl) (rw (← v) refl) (rw (← v) refl) in record { met = r.met; missed = omega (arith, r.missed); none = omega (arith, r.none); within = r.within }
+
+  pub counting_missed : m < settings → 1 ≡ verdicts m → Counting verdicts met (missed + 1) none (m + 1)
+  counting_missed l v = let r = counting_on l 0 1 0 (rw (← v) refl) (rw (← v) refl) (rw (← v) refl) in record { met = omega (arith, r.met); missed = r.missed; none = omega (arith, r.none); within = r.within }
+
+  pub counting_none : m < settings → 2 ≡ verdicts m → Counting verdicts met missed (none + 1) (m + 1)
+  counting_none l v = let r = counting_on l 0 0 1 (rw (← v) refl) (rw (← v) refl) (rw (← v) refl) in record { met = omega (arith, r.met); missed = omega (arith, r.missed); none = r.none; within = r.within }
 
   pub counting_over : settings ≤ m → ◌≡◌ {A = Counted} (record { number = 0; place = 0; met = met; missed = missed; no_exposure = none }) (counts_of verdicts)
   unfolding how_many

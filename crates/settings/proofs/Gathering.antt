@@ -8,9 +8,11 @@ use Rattle.rules.specs.declared.Bands.{Bands}
 use Rattle.rules.specs.Book.{trade}
 use Rattle.rules.specs.Read.{basket_at}
 use Rattle.laws.proofs.FactorBounds.{basket_add_on_lem}
-use Rattle.baskets.specs.declared.BasketRead.{BasketRead}
-use Rattle.baskets.specs.declared.BasketRead.TheVariants.{Whole, Refused}
-use Rattle.baskets.specs.Reading.{basket_cause, basket_read}
+use Rattle.std.specs.Prelude.{Result, Ok, Err}
+use Rattle.rules.specs.declared.causes.Cause.{Cause}
+use Rattle.rules.proofs.Numbers.{cause_some}
+use Rattle.baskets.specs.declared.Basket.{Basket}
+use Rattle.baskets.specs.Reading.{read_in, basket_cause, basket_read}
 use Rattle.baskets.proofs.Reading.{Told, told}
 use Rattle.weighing.specs.declared.tally.Tally.{Tally}
 use Rattle.weighing.specs.declared.read.TradeWords.{TradeWords}
@@ -19,8 +21,7 @@ use Rattle.weighing.specs.Words.{trade_words, written_words, trade_of, written_o
 use Rattle.weighing.specs.Gathered.{plus_member, plus_written, plus_basket}
 use Rattle.weighing.proofs.Layouts.{trade_laid, written_laid}
 use Rattle.settings.specs.declared.members.Upto.{Upto}
-use Rattle.settings.specs.declared.members.NextMember.{NextMember}
-use Rattle.settings.specs.declared.members.NextMember.TheVariants.{Some, None}
+use Rattle.std.specs.Prelude.{Option, Some, None}
 use Rattle.settings.specs.Members.{covers_from, covered_from, from_head, tally_from, after_trade, after_credit, after_basket, SureMembers, Moved}
 
 -- ---- a member that was read and added
@@ -35,19 +36,19 @@ module _ (ws : List ℕ) (u : Upto) {more : Tally} where
 
 -- ---- a basket
 
-module _ (ws : List ℕ) (at : ℕ) {r : BasketRead} (q : r ≡ basket_read ws at) where
-  pub not_refused : {X : Type 0} → basket_cause ws at ≡ 0 → (number : ℕ) → r ≡ Refused number → X
-  not_refused z number e = let t : Told ws at (Refused number) = rw e at (told ws at q) in absurd (t.1 (t.0 ∙ z))
+module _ (ws : List ℕ) (at : ℕ) {r : Result Basket Cause} (q : read_in r ≡ basket_read ws at) where
+  pub not_refused : {X : Type 0} → basket_cause ws at ≡ 0 → (cause : Cause) → r ≡ Err cause → X
+  not_refused z cause e = let t : Told ws at (Err cause) = rw e at (told ws at r q) in absurd (cause_some cause (t ∙ z))
 
-  module _ (value add_on next : ℕ) (e : r ≡ Whole value add_on next) where
-    is : Told ws at (Whole value add_on next)
-    is = rw e at (told ws at q)
+  module _ (b : Basket) (e : r ≡ Ok b) where
+    is : Told ws at (Ok b)
+    is = rw e at (told ws at r q)
 
-    pub basket_small : add_on ≤ 2 ^ 62
+    pub basket_small : b.add_on ≤ 2 ^ 62
     unfolding basket_at
     basket_small = omega (arith, is.1.1.0, basket_add_on_lem (basket_at ws at))
 
-    pub basket_is : (t : Tally) {more : Tally} → more ≡ plus_basket t value add_on → ◌≡◌ {A = Upto} (record { tally = more; at = next }) (after_basket ws (record { tally = t; at = at }))
+    pub basket_is : (t : Tally) {more : Tally} → more ≡ plus_basket t b.value b.add_on → ◌≡◌ {A = Upto} (record { tally = more; at = b.next }) (after_basket ws (record { tally = t; at = at }))
     basket_is t m = rw (m, is.1.0, is.1.1.0, is.1.1.1) refl
 
 -- ---- the loop
@@ -59,7 +60,7 @@ pub record Gathering (bands : Bands) (ws : List ℕ) (u : Upto) : Type 0 where
 pub gathering_begins : (bands : Bands) (ws : List ℕ) → SureMembers bands ws from_head → (u : Upto) → u ≡ from_head → Gathering bands ws u
 gathering_begins bands ws s u e = rw e (record { same = refl; sure = s })
 
-module _ (bands : Bands) (ws : List ℕ) (u : Upto) (g : Gathering bands ws u) {r : NextMember} (m : Moved bands ws u r) where
+module _ (bands : Bands) (ws : List ℕ) (u : Upto) (g : Gathering bands ws u) {r : Option Upto} (m : Moved bands ws u r) where
   module _ (v : Upto) (e : r ≡ Some v) where
     on : Moved bands ws u (Some v)
     on = rw e at m

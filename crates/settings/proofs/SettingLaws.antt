@@ -25,9 +25,8 @@ use Rattle.weighing.specs.declared.tally.Tally.{Tally}
 use Rattle.weighing.specs.declared.read.SetWords.{SetWords}
 use Rattle.weighing.specs.Words.{set_words, set_of}
 use Rattle.weighing.specs.Gathered.{TallyFits}
-use Rattle.settings.specs.declared.Counted.{Counted}
 use Rattle.settings.specs.declared.exposure.Pieces.{Pieces}
-use Rattle.settings.specs.Settings.{counts_of, verdict_with}
+use Rattle.settings.specs.Settings.{Counted, counts_of, verdict_with}
 use Rattle.settings.specs.Members.{from_head, tally_from, SureMembers}
 use Rattle.settings.specs.Pieces.{pieces_of, exposed_by, verdict_by, PiecesFit, AllFit}
 use Rattle.settings.specs.Chosen.{ChosenSet}

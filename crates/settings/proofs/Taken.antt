@@ -23,7 +23,7 @@ use Rattle.cuts.proofs.Records.{NoneOf, is_cover, CoverRead, cover_made, cover_o
 use Rattle.weighing.specs.declared.tally.Tally.{Tally}
 use Rattle.weighing.specs.Gathered.{plus_member, plus_written, plus_basket, plus_members, TallyRoomy}
 use Rattle.settings.specs.declared.members.Upto.{Upto}
-use Rattle.settings.specs.declared.members.NextMember.TheVariants.{Some, None}
+use Rattle.std.specs.Prelude.{Some, None}
 use Rattle.settings.specs.Members.{covers_from, SureCovers, members_from, tally_from, after_trade, after_credit, after_basket, SureMembers, Moved}
 use Rattle.settings.proofs.Ahead.{Ahead, members_ahead_lem}
 use Rattle.settings.proofs.Covers.{clash}

@@ -6,7 +6,8 @@ use Rattle.rules.specs.Book.{DerivativeSet, Placed}
 use Rattle.rules.specs.Read.{head_of}
 use Rattle.rules.specs.Rows.{sums_of}
 use Rattle.rules.specs.Filing.{admission}
-use Rattle.reading.specs.declared.Admission.{Admission}
+use Rattle.reading.specs.Admission.{Admission}
+use Rattle.reading.specs.Admission.{Admitted}
 use Rattle.filing.specs.Answers.{admission_of}
 use Rattle.other_marks.specs.Claims.{SetAmong}
 
@@ -14,10 +15,14 @@ use Rattle.other_marks.specs.Claims.{SetAmong}
 abbrev pub IsAdmission : List ℕ → List Entry → Admission → Type 0
 IsAdmission ws register a = a ≡ admission_of (head_of ws).bands (admission ws (length register))
 
+-- it is admitted with these sums
+abbrev pub AdmittedAs : List ℕ → List Entry → Sums → Type 0
+AdmittedAs ws register sums = IsAdmission ws register (Admitted sums)
+
 -- with some register
-pub record AdmittedBy (ws : List ℕ) (a : Admission) : Type 0 where
+pub record AdmittedBy (ws : List ℕ) (sums : Sums) : Type 0 where
   pub register : List Entry
-  pub is : IsAdmission ws register a
+  pub is : AdmittedAs ws register sums
 
 -- in a book that is accepted with this register and comes to these sums, a derivative set begins at a place
 pub record ChosenSet (ws : List ℕ) (register : List Entry) (sums : Sums) (head : ℕ) : Type 0 where

@@ -10,8 +10,7 @@ use Rattle.records.specs.Readable.{Readable}
 use Rattle.weighing.specs.declared.tally.Tally.{Tally}
 use Rattle.weighing.specs.Gathered.{no_tally, plus_member, plus_written, plus_basket, plus_members, TallyRoomy}
 use Rattle.settings.specs.declared.members.Upto.{Upto}
-use Rattle.settings.specs.declared.members.NextMember.{NextMember}
-use Rattle.settings.specs.declared.members.NextMember.TheVariants.{Some, None}
+use Rattle.std.specs.Prelude.{Option, Some, None}
 
 -- ---- covers
 
@@ -69,6 +68,6 @@ pub record SureMembers (bands : Bands) (ws : List ℕ) (u : Upto) : Type 0 where
   pub roomy : TallyRoomy (tally_from bands ws u)
 
 -- a member more, and all of them come to the same; or there is none
-abbrev pub Moved : Bands → List ℕ → Upto → NextMember → Type 0
+abbrev pub Moved : Bands → List ℕ → Upto → Option Upto → Type 0
 Moved bands ws u (Some v) = (tally_from bands ws u ≡ tally_from bands ws v) × (SureMembers bands ws v × (u.at < v.at))
 Moved bands ws u None = tally_from bands ws u ≡ u.tally

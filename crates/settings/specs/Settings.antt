@@ -1,15 +1,25 @@
 -- Request A.12, "Which papers to chase": how many settings of a derivative set's six marks lead to each verdict, and with which number and place it is
 -- answered. Assumes nothing.
-use Rattle.std.specs.Prelude.{ℕ, cond, List, eqb, pos, length, replicate}
+use Rattle.std.specs.Prelude.{ℕ, cond, List, eqb, pos, length, replicate, Result, Ok, Err}
 use Rattle.std.proofs.Math.Option.{Option, none, some}
 use Rattle.std.proofs.Math.ListN.{get_elem?}
 use Rattle.rules.specs.declared.Entry.{Entry}
+use Rattle.rules.specs.declared.causes.Refusal.{Refusal}
+use Rattle.rules.specs.Numbers.{cause_number}
 use Rattle.rules.specs.Book.{Item, asset, derivatives, financing, off_balance, Placed}
 use Rattle.rules.specs.Weigh.{sum_below}
 use Rattle.rules.specs.Filing.{Outcome, early, refused, accepted, admission, filing}
 use Rattle.other_marks.specs.Marked.{settings, book_with}
 use Rattle.sets.specs.Sets.{sets_of}
-use Rattle.settings.specs.declared.Counted.{Counted}
+use Rattle.settings.specs.declared.Counts.{Counts}
+
+-- the number and the place that are answered, and how many settings lead to verdict 0, to verdict 1 and to verdict 2
+pub record Counted : Type 0 where
+  pub number : ℕ
+  pub place : ℕ
+  pub met : ℕ
+  pub missed : ℕ
+  pub no_exposure : ℕ
 
 -- the verdict of the filing of the book in which the set that begins at a place has the marks m. No rows are lent to this call: these are as many as
 -- a filing needs, and what rows and register hold has no part in a verdict (crate papers, `SameVerdict`).
@@ -51,3 +61,12 @@ counted_in ws ordinal register (accepted items left) = counted_set ws register (
 -- a book, an ordinal and the lent register
 unfoldable pub counting : List ℕ → (ordinal : ℕ) → List Entry → Counted
 counting ws ordinal register = counted_in ws ordinal register (admission ws (length register))
+
+-- ---- as the code answers it
+
+abbrev pub with_counts : Counts → Counted
+with_counts c = record { number = 0; place = 0; met = c.met; missed = c.missed; no_exposure = c.no_exposure }
+
+abbrev pub counted_as : Result Counts Refusal → Counted
+counted_as (Ok c) = with_counts c
+counted_as (Err r) = turned_away (cause_number r.cause) r.place

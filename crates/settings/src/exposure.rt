@@ -9,7 +9,7 @@ use weighing::read::SetWords;
 use weighing::tally::Tally;
 use weights::addon::weighted;
 use words::amount::size;
-use words::numbers::{chosen, less, wide};
+use words::numbers::chosen;
 use words::parts::{bit, field};
 
 // Of what its exposure is made, in thousandths, whatever its marks: replacement and the add-on that is kept in without netting, with netting, and with
@@ -29,15 +29,15 @@ pub fn pieces_of(d: SetWords, t: Tally) -> Pieces
     ensures { result ≡ pieces_of (set_of d) t }
 {
     let add_on = t.gross - t.uncovered;
-    let net = less(t.gains, t.losses);
+    let net = t.gains.saturating_sub(t.losses);
     let share = weighted(add_on, t.gains, t.losses);
-    let after_margin = less(net, wide(size(d.received)));
+    let after_margin = net.saturating_sub(u64::from(size(d.received)));
     Pieces {
         gross: 1000 * t.gains + add_on,
         netted: 1000 * net + share,
         margined: 1000 * after_margin + share,
-        paid: 1000 * wide(size(d.paid)),
-        fixed: 1000 * wide(size(d.posted)) + 1000 * (t.written - t.covered),
+        paid: 1000 * u64::from(size(d.paid)),
+        fixed: 1000 * u64::from(size(d.posted)) + 1000 * (t.written - t.covered),
     }
 }
 

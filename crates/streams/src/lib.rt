@@ -1,7 +1,7 @@
 // What the programs read and write: words out of bytes, and numbers in decimal digits.
 #![tactic(auto)]
 
-ghost use Rattle.std.specs.Prelude.{◌≡◌, ℕ, ◌*◌, ◌<◌, ◌≤◌, length, take, slice_index, IfOk, OnOk, unsigned_abs, [], ◌∷◌};
+ghost use Rattle.std.specs.Prelude.{◌≡◌, ℕ, ◌*◌, ◌<◌, ◌≤◌, length, take, slice_index, IfOk, OnOk, [], ◌∷◌};
 ghost use Rattle.std.specs.Io.KnownBytes.{Appends, Consumes, IsAtEnd};
 ghost use Rattle.streams.specs.Words.{word, word_at};
 ghost use Rattle.std.specs.Fmt.{signed_decimal};
@@ -10,10 +10,10 @@ use std::io;
 use std::io::{Read, Write};
 
 // A little-endian word of four bytes.
-pub fn word_of(a: u8, b: u8, c: u8, d: u8) -> u32
-    ensures { result ≡ word a b c d }
+pub fn word_of(bytes: [u8; 4]) -> u32
+    ensures { result ≡ word (slice_index bytes 0) (slice_index bytes 1) (slice_index bytes 2) (slice_index bytes 3) }
 {
-    (a as u32) + 256 * (b as u32) + 65536 * (c as u32) + 16777216 * (d as u32)
+    u32::from_le_bytes(bytes)
 }
 
 // The first n words of the bytes, four bytes to a word.
@@ -24,12 +24,12 @@ pub fn gather(bytes: &[u8], words: &mut [u32], n: usize)
 {
     for i in 0..n {
         let at = 4 * i;
-        words[i] = word_of(bytes[at], bytes[at + 1], bytes[at + 2], bytes[at + 3]);
+        words[i] = word_of([bytes[at], bytes[at + 1], bytes[at + 2], bytes[at + 3]]);
     }
 }
 
 // Reads until the buffer is full or the input ends, and says how many bytes there were: one read of a pipe may give fewer than are
-// still to come.
+// still to come. The library's own loops say less where the input ends early, or want memory.
 pub fn read_full<R: Read>(input: &mut R, bytes: &mut [u8]) -> io::Result<usize>
     ensures within { IfOk result (λ n. n ≤ length bytes.new) }
     ensures read { IfOk result (λ n. Consumes (R.remaining input.old) (R.remaining input.new) (take n bytes.new)) }
@@ -46,21 +46,11 @@ pub fn read_full<R: Read>(input: &mut R, bytes: &mut [u8]) -> io::Result<usize>
     Ok(done)
 }
 
-// A number without its sign; -1 - z fits wherever z does, and -z does not.
-fn magnitude(z: i64) -> u64
-    ensures { result ≡ unsigned_abs z }
-{
-    if z < 0 { (-1 - z) as u64 + 1 } else { z as u64 }
-}
-
 // A signed number in decimal digits.
 pub fn print_signed<W: Write>(out: &mut W, value: i64) -> io::Result<()>
     ensures { OnOk result (Appends (W.contents out.old) (W.contents out.new) (signed_decimal value)) }
 {
-    if value < 0 {
-        out.write_all(b"-")?;
-    }
-    write!(out, "{}", magnitude(value))
+    write!(out, "{value}")
 }
 
 pub fn end_line<W: Write>(out: &mut W) -> io::Result<()>

@@ -5,6 +5,7 @@ ghost use Rattle.template.specs.Sections.{SumsFit, counted_down, counted_up};
 
 use rules::Sums;
 
+#[tactic(auto, using(crate::proofs::Sections::exposure_is))]
 pub fn exposure(s: Sums) -> u64
     requires { SumsFit s }
     ensures { pos result ≡ exposure_row s }

@@ -1,53 +1,45 @@
-// Row 22 and the verdict, of Tier 1 as a gain less a loss, in units, and of the exposure, row 21, in thousandths.
-ghost use Rattle.std.specs.Prelude.{◌≡◌, ◌*◌, ◌^◌, ◌<◌, pos};
+// Row 22 and the verdict, of Tier 1, in units, and of the exposure, row 21, in thousandths.
+ghost use Rattle.std.specs.Prelude.{◌≡◌, pos};
+ghost use Rattle.rules.specs.Numbers.{verdict_number};
 ghost use Rattle.rules.specs.Ratio.{ratio_of, tier1_of, verdict_of};
-ghost use Rattle.rules.specs.Weighted.{ceil};
 
-use crate::signed::{below_zero, whole};
 use crate::units::thousandths;
-use rules::verdicts;
+use rules::Tier1;
+use rules::verdicts::Verdict;
 
 // "basis points, 10,000 times row 20 over row 21 rounded towards minus infinity; 0 if row 21 is 0". Below 0 the magnitude is
 // rounded up: cut towards zero, a negative ratio would come out too high.
-pub fn ratio(gain: u32, loss: u32, exposure: u64) -> i64
-    ensures { result ≡ ratio_of (tier1_of gain loss) (pos exposure) }
+#[tactic(auto, using(rules::proofs::RatioCases::ratio_none, rules::proofs::RatioCases::ratio_gain, rules::proofs::RatioCases::ratio_loss))]
+pub fn ratio(tier1: Tier1, exposure: u64) -> i64
+    ensures { result ≡ ratio_of (tier1_of tier1.gain tier1.loss) (pos exposure) }
 {
     if exposure == 0 {
         return 0;
     }
-    if gain < loss {
-        let missing = thousandths(loss - gain);
-        return below_zero(rounded_up(10000 * missing, exposure));
+    if tier1.gain < tier1.loss {
+        let missing = thousandths(tier1.loss - tier1.gain);
+        return -((10000 * missing).div_ceil(exposure) as i64);
     }
-    let tier1 = thousandths(gain - loss);
-    whole(10000 * tier1 / exposure)
+    let available = thousandths(tier1.gain - tier1.loss);
+    (10000 * available / exposure) as i64
 }
 
 // "Verdict 2 if row 21 is 0; 0 if 100 times row 20 is at least 3 times row 21; otherwise 1". Three times the exposure may not fit
 // 64 bits, so that a hundred times Tier 1 is divided instead.
-pub fn verdict(gain: u32, loss: u32, exposure: u64) -> u32
-    ensures { result ≡ verdict_of (tier1_of gain loss) (pos exposure) }
+#[tactic(auto, using(rules::proofs::RatioCases::verdict_none, rules::proofs::RatioCases::verdict_met, rules::proofs::RatioCases::verdict_missed))]
+pub fn verdict(tier1: Tier1, exposure: u64) -> Verdict
+    ensures { verdict_number result ≡ verdict_of (tier1_of tier1.gain tier1.loss) (pos exposure) }
 {
     if exposure == 0 {
-        return verdicts::NO_EXPOSURE;
+        return Verdict::NoExposure;
     }
-    if gain < loss {
-        return verdicts::MISSED;
+    if tier1.gain < tier1.loss {
+        return Verdict::Missed;
     }
-    let tier1 = thousandths(gain - loss);
-    if exposure <= 100 * tier1 / 3 {
-        return verdicts::MET;
+    let available = thousandths(tier1.gain - tier1.loss);
+    if exposure <= 100 * available / 3 {
+        Verdict::Met
+    } else {
+        Verdict::Missed
     }
-    verdicts::MISSED
-}
-
-// a / b rounded up
-fn rounded_up(a: u64, b: u64) -> u64
-    requires { (0 < b) × (a < 2 ^ 63) }
-    ensures { result ≡ ceil a b }
-{
-    if a % b == 0 {
-        return a / b;
-    }
-    a / b + 1
 }

@@ -8,18 +8,19 @@ use crate::exposure::exposure;
 use crate::ratio::ratio;
 use crate::signed::signed;
 use crate::units::thousandths;
-use rules::{Sums, limits};
+use rules::{Sums, Tier1, limits};
 
-pub fn rows_of(s: Sums, gain: u32, loss: u32) -> [i64; limits::ROWS]
+#[tactic(auto, using(crate::proofs::Sections::sections_are))]
+pub fn rows_of(s: Sums, tier1: Tier1) -> [i64; limits::ROWS]
     requires { SumsFit s }
-    ensures { result ≡ rows_of s gain loss }
+    ensures { result ≡ rows_of s tier1.gain tier1.loss }
 {
     let empty = [0i64; limits::ROWS];
     let first = on_balance_rows(empty, s);
     let second = derivative_rows(first, s);
     let third = financing_rows(second, s);
     let fourth = off_balance_rows(third, s);
-    ratio_rows(fourth, s, gain, loss)
+    ratio_rows(fourth, s, tier1)
 }
 
 // "in the first 22 places of the lent rows (later places stay)"
@@ -27,12 +28,7 @@ pub fn copy_out(from: [i64; limits::ROWS], to: &mut [i64])
     requires { 22 ≤ length to.old }
     ensures { to.new ≡ from ++ drop 22 to.old }
 {
-    let mut i = 0;
-    while i < limits::ROWS {
-        let row = from[i];
-        to[i] = row;
-        i += 1;
-    }
+    to[..limits::ROWS].copy_from_slice(&from);
 }
 
 fn on_balance_rows(mut rows: [i64; limits::ROWS], s: Sums) -> [i64; limits::ROWS]
@@ -85,13 +81,13 @@ fn off_balance_rows(mut rows: [i64; limits::ROWS], s: Sums) -> [i64; limits::ROW
     rows
 }
 
-fn ratio_rows(mut rows: [i64; limits::ROWS], s: Sums, gain: u32, loss: u32) -> [i64; limits::ROWS]
+fn ratio_rows(mut rows: [i64; limits::ROWS], s: Sums, tier1: Tier1) -> [i64; limits::ROWS]
     requires { SumsFit s }
-    ensures { result ≡ with_ratio rows s gain loss }
+    ensures { result ≡ with_ratio rows s tier1.gain tier1.loss }
 {
     let exposed = exposure(s);
-    rows[19] = signed(thousandths(gain), thousandths(loss));
+    rows[19] = signed(thousandths(tier1.gain), thousandths(tier1.loss));
     rows[20] = signed(exposed, 0);
-    rows[21] = ratio(gain, loss, exposed);
+    rows[21] = ratio(tier1, exposed);
     rows
 }

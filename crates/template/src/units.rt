@@ -4,5 +4,5 @@ ghost use Rattle.std.specs.Prelude.{◌≡◌, ◌*◌};
 pub fn thousandths(x: u32) -> u64
     ensures { result ≡ 1000 * x }
 {
-    1000 * (x as u64)
+    1000 * u64::from(x)
 }

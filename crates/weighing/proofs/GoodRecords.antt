@@ -1,86 +1,13 @@
--- Trades, written credits and covers without a fault, told by tests of their whole words. Assumes nothing.
-use Prim.Native.Nat.{ℕ, ◌+◌, ◌/◌, ◌%◌, ◌^◌, ◌≤◌, ◌<◌}
-use mathlib.Core.Path.{◌≡◌, refl, sym, ◌∙◌}
-use mathlib.Core.Bool.{Bool, true, false, cond, not, ◌&&◌, ◌||◌, and-false, true≢false}
-use mathlib.Core.List.{List}
+-- A plain amount is 0 where the whole word is. Assumes nothing.
+use Prim.Native.Nat.{ℕ, ◌%◌, ◌^◌}
+use mathlib.Core.Path.{◌≡◌, refl, ◌∙◌}
+use mathlib.Core.Bool.{Bool, true, false, not, ◌&&◌}
 use native.Mathlib.Omega.{arith}
-use borrow.Author.Tests.{eqb-true, lt-leb, lt-ltb, ltb-true, not-true, not-false}
-use lib.Dec.{eqb, leb, ltb}
-use lib.ListN.{length}
-use Rattle.rules.specs.Word.{kind_of, payload_of, field_of, bit_of, size_of, faulty_amount, faulty_days, minus_zero}
-use Rattle.rules.specs.Faults.{cause, trade_bits_fault, trade_fault, written_fault, cover_fault}
-use Rattle.rules.specs.Read.{lacks}
-use Rattle.rules.proofs.Lists.{and_right}
-use Rattle.words.proofs.Both.{head_is, plain_is}
+use borrow.Author.Tests.{ltb-true}
+use lib.Dec.{eqb}
+use Rattle.rules.specs.Word.{size_of}
+use Rattle.words.proofs.Both.{plain_is}
 use Rattle.records.specs.Step.{plain_amount}
-use Rattle.records.proofs.Words.{lacking_short}
-use Rattle.weighing.specs.declared.read.TradeWords.{TradeWords}
-use Rattle.weighing.specs.declared.read.WrittenWords.{WrittenWords}
-use Rattle.weighing.specs.declared.read.CoverWords.{CoverWords}
-use Rattle.weighing.specs.Words.{trade_words, trade_fault_of, resets_odd, good_trade, sound_trade, written_words, written_fault_of, good_written, sound_written, cover_words, cover_fault_of, good_cover, sound_cover}
-
--- ---- head words: all bits from the first without a meaning on
-
-pub trade_head : (w : ℕ) → eqb (w / 2 ^ 13) 163840 ≡ (eqb (kind_of w) 5 && not (leb (2 ^ 13) (payload_of w)))
-trade_head w = head_is w 5 (2 ^ 13) 163840 (λ e. (omega arith, omega arith)) (λ k l. omega arith)
-
-pub written_head : (w : ℕ) → eqb (w / 2 ^ 23) 192 ≡ (eqb (kind_of w) 6 && not (leb (2 ^ 23) (payload_of w)))
-written_head w = head_is w 6 (2 ^ 23) 192 (λ e. (omega arith, omega arith)) (λ k l. omega arith)
-
-pub cover_head : (w : ℕ) → eqb (w / 2 ^ 12) 458752 ≡ (eqb (kind_of w) 7 && not (leb (2 ^ 12) (payload_of w)))
-cover_head w = head_is w 7 (2 ^ 12) 458752 (λ e. (omega arith, omega arith)) (λ k l. omega arith)
-
--- ---- words
-
-trade_by_words : (t : TradeWords) → good_trade t
-    ≡ (eqb (kind_of t.head) 5 && eqb (cond (not (eqb (kind_of t.reset_days) 0) || (not (eqb (kind_of t.days) 0) || (not (eqb (kind_of t.notional) 0) || (not (eqb (kind_of t.value) 0) || false)))) 6 (trade_fault_of t)) 0)
-unfolding good_trade trade_fault cause
-trade_by_words t =
-    go (eqb (kind_of t.head) 5) (leb (2 ^ 13) (payload_of t.head)) (trade_bits_fault (field_of 0 3 t.head) (field_of 3 8 t.head) (bit_of 12 t.head))
-    (eqb (kind_of t.value) 0) (minus_zero t.value) (eqb (kind_of t.notional) 0) (faulty_amount t.notional) (eqb (kind_of t.days) 0) (faulty_days t.days)
-    (eqb (kind_of t.reset_days) 0) (faulty_days t.reset_days) (resets_odd t)
-  where
-    go : (kh ph b kv mv kn fn kd fd kr fr o : Bool) → (kh && not ph && not b && (kv && not mv && (kn && not fn) && (kd && not fd && (kr && not fr))) && not o)
-        ≡ (kh && eqb (cond (not kr || (not kd || (not kn || (not kv || false)))) 6 (cond (ph || b) 7 (cond (mv || fn || fd || fr) 8 (cond o 9 0)))) 0)
-    go false ph b kv mv kn fn kd fd kr fr o = refl
-    go true ph b kv mv kn fn kd fd false fr o = simp and-false
-    go true ph b kv mv kn fn false fd true fr o = simp and-false
-    go true ph b kv mv false fn true fd true fr o = simp and-false
-    go true ph b false mv true fn true fd true fr o = simp and-false
-    go true true b true mv true fn true fd true fr o = refl
-    go true false true true mv true fn true fd true fr o = refl
-    go true false false true true true fn true fd true fr o = refl
-    go true false false true false true true true fd true fr o = refl
-    go true false false true false true false true true true fr o = refl
-    go true false false true false true false true false true true o = refl
-    go true false false true false true false true false true false true = refl
-    go true false false true false true false true false true false false = refl
-
-written_by_words : (w : WrittenWords) → good_written w
-    ≡ (eqb (kind_of w.head) 6 && eqb (cond (not (eqb (kind_of w.premiums) 0) || (not (eqb (kind_of w.days) 0) || (not (eqb (kind_of w.loss_taken) 0) || (not (eqb (kind_of w.notional) 0) || (not (eqb (kind_of w.value) 0) || false))))) 6 (written_fault_of w)) 0)
-unfolding good_written written_fault cause
-written_by_words w =
-    go (eqb (kind_of w.head) 6) (leb (2 ^ 23) (payload_of w.head)) (eqb (kind_of w.value) 0) (minus_zero w.value) (eqb (kind_of w.notional) 0) (faulty_amount w.notional)
-    (eqb (kind_of w.loss_taken) 0) (faulty_amount w.loss_taken) (eqb (kind_of w.premiums) 0) (faulty_amount w.premiums) (eqb (kind_of w.days) 0) (faulty_days w.days)
-    (ltb (size_of w.notional) (size_of w.loss_taken))
-  where
-    go : (kh ph kv mv kn fn kl fl kp fp kd fd o : Bool) → (kh && not ph && (kv && not mv && (kn && not fn) && (kl && not fl && (kp && not fp)) && (kd && not fd)) && not o)
-        ≡ (kh && eqb (cond (not kp || (not kd || (not kl || (not kn || (not kv || false))))) 6 (cond ph 7 (cond (mv || fn || fl || fd || fp) 8 (cond o 9 0)))) 0)
-    go false ph kv mv kn fn kl fl kp fp kd fd o = refl
-    go true ph kv mv kn fn kl fl false fp kd fd o = simp and-false
-    go true ph kv mv kn fn kl fl true fp false fd o = simp and-false
-    go true ph kv mv kn fn false fl true fp true fd o = simp and-false
-    go true ph kv mv false fn true fl true fp true fd o = simp and-false
-    go true ph false mv true fn true fl true fp true fd o = simp and-false
-    go true true true mv true fn true fl true fp true fd o = refl
-    go true false true true true fn true fl true fp true fd o = refl
-    go true false true false true true true fl true fp true fd o = refl
-    go true false true false true false true true true fp true fd o = refl
-    go true false true false true false true false true true true true o = refl
-    go true false true false true false true false true true true false o = refl
-    go true false true false true false true false true false true true o = refl
-    go true false true false true false true false true false true false true = refl
-    go true false true false true false true false true false true false false = refl
 
 -- of a plain amount the whole word is the size
 pub whole_amount : (w : ℕ) → (plain_amount w && not (eqb w 0)) ≡ (plain_amount w && not (eqb (size_of w) 0))
@@ -92,65 +19,3 @@ whole_amount w = go (plain_amount w) refl
         let same : w % 2 ^ 27 ≡ w = omega arith in
         rw same
     go false e = refl
-
-cover_by_words : (c : CoverWords) → good_cover c ≡ (eqb (kind_of c.head) 7 && eqb (cond (not (eqb (kind_of c.amount) 0) || false) 6 (cover_fault_of c)) 0)
-unfolding good_cover cover_fault cause
-cover_by_words c = go (eqb (kind_of c.head) 7) (leb (2 ^ 12) (payload_of c.head)) (eqb (kind_of c.amount) 0) (faulty_amount c.amount) (eqb (size_of c.amount) 0)
-  where
-    go : (kh ph ka fa z : Bool) → (kh && not ph && (ka && not fa && not z)) ≡ (kh && eqb (cond (not ka || false) 6 (cond ph 7 (cond (fa || z) 8 0))) 0)
-    go false ph ka fa z = refl
-    go true ph false fa z = simp and-false
-    go true true true fa z = refl
-    go true false true true z = refl
-    go true false true false true = refl
-    go true false true false false = refl
-
--- ---- at a place
-
-module _ (ws : List ℕ) (at : ℕ) where
-  pub no_trade : length ws ≤ at + 4 → false ≡ sound_trade ws at
-  no_trade h = simp (← (lacking_short ws at 4 4 (omega arith) h), and-false)
-
-  pub trade_is : at + 4 < length ws → good_trade (trade_words ws at) ≡ sound_trade ws at
-  unfolding lacks
-  trade_is h =
-      trade_by_words (trade_words ws at)
-      ∙ simp (
-        lt-ltb at (length ws) (omega arith),
-        lt-leb (length ws) (at + 1) (omega arith),
-        lt-leb (length ws) (at + 2) (omega arith),
-        lt-leb (length ws) (at + 3) (omega arith),
-        lt-leb (length ws) (at + 4) (omega arith),
-      )
-
-  pub no_written : length ws ≤ at + 5 → false ≡ sound_written ws at
-  no_written h = simp (← (lacking_short ws at 5 5 (omega arith) h), and-false)
-
-  pub written_is : at + 5 < length ws → good_written (written_words ws at) ≡ sound_written ws at
-  unfolding lacks
-  written_is h =
-      written_by_words (written_words ws at)
-      ∙ simp (
-        lt-ltb at (length ws) (omega arith),
-        lt-leb (length ws) (at + 1) (omega arith),
-        lt-leb (length ws) (at + 2) (omega arith),
-        lt-leb (length ws) (at + 3) (omega arith),
-        lt-leb (length ws) (at + 4) (omega arith),
-        lt-leb (length ws) (at + 5) (omega arith),
-      )
-
-  pub no_cover : length ws ≤ at + 1 → false ≡ sound_cover ws at
-  no_cover h = simp (← (lacking_short ws at 1 1 (omega arith) h), and-false)
-
-  pub cover_is : at + 1 < length ws → good_cover (cover_words ws at) ≡ sound_cover ws at
-  unfolding lacks
-  cover_is h = cover_by_words (cover_words ws at) ∙ simp (lt-ltb at (length ws) (omega arith), lt-leb (length ws) (at + 1) (omega arith))
-
--- ---- a record that stands, asked whether it is not without a fault: its cause is 0, or not
-
-module _ (stand : Bool) {good : Bool} {cause : ℕ} (q : good ≡ (stand && eqb cause 0)) where
-  pub sound_none : not good ≡ false → cause ≡ 0
-  sound_none g = eqb-true cause 0 (and_right stand (eqb cause 0) (sym q ∙ not-false good g))
-
-  pub sound_some : stand ≡ true → not good ≡ true → cause ≡ 0 → ⊥
-  sound_some k g z = true≢false (sym (simp (k, z)) ∙ sym q ∙ not-true good g)

@@ -1,31 +1,19 @@
 -- What a set brings: each piece by what the calls gave, and how large it is. Assumes nothing.
 use Prim.Native.Nat.{ℕ, ◌+◌, ◌-◌, ◌*◌, ◌≤◌}
-use mathlib.Core.Path.{◌≡◌, refl, ◌∙◌}
+use mathlib.Core.Path.{◌≡◌, refl}
 use mathlib.Core.Bool.{Bool, true, false, cond}
 use native.Mathlib.Omega.{arith}
-use Rattle.rules.specs.Word.{bit_of, size_of}
-use Rattle.rules.specs.Book.{DerivativeSet}
 use Rattle.rules.specs.Read.{derivative_set_at}
 use Rattle.rules.specs.Weigh.{margin_offsets, replacement_of, weighted_in}
-use Rattle.rules.proofs.Weighted.{at_most, mono_x}
+use Rattle.rules.proofs.Weighted.{mono_x}
 use Rattle.laws.proofs.ItemRows.{marked, replacement_at_most, weighted_at_most}
 use Rattle.records.specs.Sums.{SumsRoomy}
 use Rattle.weighing.specs.declared.read.SetWords.{SetWords}
 use Rattle.weighing.specs.declared.tally.Tally.{Tally}
 use Rattle.weighing.specs.Words.{set_of}
-use Rattle.weighing.specs.Gathered.{tally_by, replaced_by, weighted_by, set_sums, TallyFits}
+use Rattle.weighing.specs.Gathered.{tally_by, weighted_by, set_sums, TallyFits}
 
 -- ---- how large
-
-pub replaced_under : (b : Bool) (gains off r : ℕ) → r ≡ replaced_by b gains off → r ≤ gains
-unfolding replaced_by
-replaced_under true gains off r e = omega arith
-replaced_under false gains off r e = omega arith
-
-pub weighted_under : (b : Bool) (gains losses x r : ℕ) → r ≡ weighted_by b gains losses x → r ≤ x
-unfolding weighted_by
-weighted_under true gains losses x r e = omega (arith, at_most x gains (gains - losses) (omega arith))
-weighted_under false gains losses x r e = omega arith
 
 -- the weighted add-on of the smaller is the smaller
 pub weighted_less : (b : Bool) (gains losses x y r s : ℕ) → r ≡ weighted_by b gains losses x → s ≡ weighted_by b gains losses y → x ≤ y → r ≤ s
@@ -33,27 +21,12 @@ unfolding weighted_by
 weighted_less true gains losses x y r s e f h = omega (arith, mono_x x y gains (gains - losses) h)
 weighted_less false gains losses x y r s e f h = omega arith
 
--- ---- the pieces
-
 -- margin taken off with the losses is margin taken off the net
-margin_off : (a b : Bool) (gains losses received : ℕ)
+pub margin_off : (a b : Bool) (gains losses received : ℕ)
     → cond a (gains - (losses + cond b received 0)) gains ≡ cond a (cond b (gains - losses - received) (gains - losses)) gains
 margin_off true true gains losses received = omega arith
 margin_off true false gains losses received = omega arith
 margin_off false b gains losses received = refl
-
-module _ (d : SetWords) (t : Tally) where
-  abbrev here : DerivativeSet
-  here = set_of d
-
-  pub replaced_is : (n k : Bool) (c m r : ℕ) → n ≡ bit_of 0 d.head → k ≡ margin_offsets here → c ≡ size_of d.received → m ≡ cond k c 0
-      → r ≡ replaced_by n t.gains (t.losses + m) → r ≡ replacement_of here (tally_by t)
-  unfolding replacement_of replaced_by derivative_set_at
-  replaced_is n k c m r nq kq cq mq rq = rq ∙ simp (mq, kq, cq, nq) (margin_off (bit_of 0 d.head) (margin_offsets here) t.gains t.losses (size_of d.received))
-
-  pub weighted_is : (n : Bool) (x r : ℕ) → n ≡ bit_of 0 d.head → r ≡ weighted_by n t.gains t.losses x → r ≡ weighted_in here (tally_by t) x
-  unfolding weighted_in weighted_by derivative_set_at
-  weighted_is n x r nq rq = rq ∙ simp nq
 
 -- ---- what a set brings can be added
 

@@ -1,29 +1,13 @@
--- The days of a trade that do not go together, and five bits that are all 1. Assumes nothing.
-use Prim.Native.Nat.{ℕ, ◌+◌, ◌-◌, ◌*◌, ◌/◌, ◌%◌, ◌^◌, ◌≤◌, ◌<◌}
+-- Five bits that are all 1. Assumes nothing.
+use Prim.Native.Nat.{ℕ, ◌+◌, ◌*◌, ◌/◌, ◌%◌, ◌^◌, ◌<◌}
 use mathlib.Core.Path.{◌≡◌, refl, sym, ◌∙◌, ap}
-use mathlib.Core.Bool.{Bool, true, false, cond, not, ◌&&◌}
+use mathlib.Core.Bool.{Bool, true, false, ◌&&◌}
 use native.Mathlib.Nat.{div-one}
 use native.Mathlib.Omega.{arith}
-use borrow.Author.Tests.{eq-eqb, ne_eqb, eqb-true, eqb-false, le-ltb, lt-ltb}
-use lib.Dec.{eqb, ltb}
+use borrow.Author.Tests.{eq-eqb, ne_eqb, eqb-true, eqb-false}
+use lib.Dec.{eqb}
 use lib.Pow.{mod-pow-add}
 use Rattle.rules.specs.Word.{bit_of}
-
--- ---- the days to the next reset
-
--- with the mark, counted as 1, no gap is beyond what is allowed, and without it any gap is
-module _ (mark : Bool) (one remaining next : ℕ) (is : one ≡ cond mark 1 0) (short : remaining < 2 ^ 27) (order : next ≤ remaining) where
-  pub gap_beyond : ltb (2 ^ 27 * one) (remaining - next) ≡ (not mark && not (eqb next remaining))
-  gap_beyond = go mark (eqb next remaining) is refl
-    where
-      go : (mark same : Bool) → one ≡ cond mark 1 0 → eqb next remaining ≡ same → ltb (2 ^ 27 * one) (remaining - next) ≡ (not mark && not same)
-      go true same i e = le-ltb (2 ^ 27 * one) (remaining - next) (omega arith)
-      go false true i e = le-ltb (2 ^ 27 * one) (remaining - next) (omega (arith, eqb-true next remaining e))
-      go false false i e =
-          let other : next ≡ remaining → ⊥ = eqb-false next remaining e in
-          lt-ltb (2 ^ 27 * one) (remaining - next) (omega arith)
-
--- ---- five bits that are all 1
 
 abbrev together : (a b d e f : ℕ) → ℕ
 together a b d e f = 16 * f + 8 * e + 4 * d + 2 * b + a

@@ -1,5 +1,7 @@
 -- The words of a record, and the record that they are, as Read lays it out. Assumes nothing.
-use Rattle.std.specs.Prelude.{ℕ, ◌+◌, ◌^◌, Bool, not, ◌&&◌, ◌||◌, List, [], ◌∷◌, eqb, leb, ltb}
+use Rattle.std.specs.Prelude.{ℕ, ◌+◌, ◌^◌, ◌≡◌, Bool, not, ◌&&◌, ◌||◌, List, [], ◌∷◌, eqb, leb, ltb, Result, Ok, Err}
+use Rattle.rules.specs.declared.causes.Refusal.{Refusal}
+use Rattle.rules.specs.Numbers.{cause_number}
 use Rattle.rules.specs.Word.{word, kind_of, payload_of, field_of, bit_of, size_of, faulty_days, minus_zero}
 use Rattle.rules.specs.Book.{Trade, Cover, WrittenCredit, DerivativeSet}
 use Rattle.rules.specs.Faults.{derivative_set_fault, trade_bits_fault, trade_fault, written_fault, cover_fault}
@@ -13,8 +15,11 @@ use Rattle.weighing.specs.declared.read.CoverWords.{CoverWords}
 
 -- ---- at a place
 
+abbrev pub set_words_at : List ℕ → ℕ → SetWords
+set_words_at ws at = record { head = word ws at; received = word ws (at + 1); paid = word ws (at + 2); posted = word ws (at + 3) }
+
 abbrev pub set_words : List ℕ → SetWords
-set_words ws = record { head = word ws 0; received = word ws 1; paid = word ws 2; posted = word ws 3 }
+set_words ws = set_words_at ws 0
 
 abbrev pub trade_words : List ℕ → ℕ → TradeWords
 trade_words ws at = record { head = word ws at; value = word ws (at + 1); notional = word ws (at + 2); days = word ws (at + 3); reset_days = word ws (at + 4) }
@@ -72,6 +77,11 @@ written_cause ws at = record_cause 5 ws at (written_fault_of (written_words ws a
 abbrev pub cover_cause : List ℕ → ℕ → ℕ
 cover_cause ws at = record_cause 1 ws at (cover_fault_of (cover_words ws at))
 
+-- what is answered of a record at a place that has such a cause, or 0 for none
+abbrev pub FaultAt : (cause at : ℕ) → Result (Unit {0}) Refusal → Type 0
+FaultAt cause at (Ok u) = cause ≡ 0
+FaultAt cause at (Err r) = (cause_number r.cause ≡ cause) × (r.place ≡ at)
+
 -- ---- records without a fault, their words tested whole
 
 -- an amount of either sign, and days
@@ -101,12 +111,6 @@ good_written w =
 unfoldable pub good_cover : CoverWords → Bool
 good_cover c = eqb (kind_of c.head) 7 && not (leb (2 ^ 12) (payload_of c.head)) && (plain_amount c.amount && not (eqb (size_of c.amount) 0))
 
--- such a record stands at a place
+-- such a trade stands at a place
 abbrev pub sound_trade : List ℕ → ℕ → Bool
 sound_trade ws at = stands 5 ws at && eqb (trade_cause ws at) 0
-
-abbrev pub sound_written : List ℕ → ℕ → Bool
-sound_written ws at = stands 6 ws at && eqb (written_cause ws at) 0
-
-abbrev pub sound_cover : List ℕ → ℕ → Bool
-sound_cover ws at = stands 7 ws at && eqb (cover_cause ws at) 0

@@ -1,109 +1,87 @@
 // Trades, written credits and covers without a fault, by tests of their whole words.
-ghost use Rattle.std.specs.Prelude.{◌≡◌, not, ◌&&◌, ◌-◌, ◌^◌, ◌≤◌, eqb, leb, length};
-ghost use Rattle.rules.specs.Word.{kind_of, payload_of};
-ghost use Rattle.weighing.specs.Words.{good_cover, good_trade, good_written, sound_cover, sound_trade, sound_written};
+ghost use Rattle.std.specs.Prelude.{suc};
+ghost use Rattle.rules.specs.declared.kinds.Kind.TheVariants.{Cover, Trade, WrittenCredit};
+ghost use Rattle.records.specs.Cause.{record_cause};
+ghost use Rattle.records.specs.Readable.{Readable};
+ghost use Rattle.weighing.specs.Words.{FaultAt, good_cover, good_trade, good_written};
+ghost use Rattle.weighing.specs.Good.{cover_is, trade_is, written_is};
 
-use crate::faults::{class_faulty, resets_faulty};
-use crate::read::{CoverWords, TradeWords, WrittenWords, cover_words, trade_words, written_words};
-use rules::{kinds, payloads};
+use crate::read::{CoverWords, TradeWords, WrittenWords};
+use records::record::{Good, at_place, check_at, good_at};
+use rules::causes::Refusal;
+use rules::kinds::Kind;
 use words::amount::{plain_amount, plain_days, plain_value, size};
-use words::numbers::both;
-use words::parts::{bit, field};
+use words::parts::is_head;
 
-// The head words of a trade, a written credit and a cover, but for the bits that have a meaning.
-const TRADE_HEAD: u32 = kinds::TRADE << 15;
+impl Good for TradeWords {
+    const KIND: Kind = Kind::Trade;
 
-const WRITTEN_HEAD: u32 = kinds::WRITTEN_CREDIT << 5;
+    type Table = ();
 
-const COVER_HEAD: u32 = kinds::COVER << 16;
+    ghost KIND = { Trade };
 
-// A trade's head word with no bit that has no meaning.
-fn trade_head(w: u32) -> bool
-    ensures { result ≡ (eqb (kind_of w) 5 && not (leb (2 ^ 13) (payload_of w))) }
-{
-    w >> 13 == TRADE_HEAD
-}
+    ghost good = { good_trade };
 
-// None of the causes 6 to 9, with the words tested whole.
-fn trade_words_good(t: TradeWords) -> bool
-    ensures { result ≡ good_trade t }
-{
-    let classed = !class_faulty(
-        field(t.head, payloads::TRADE_CLASS, payloads::TRADE_CLASS_BITS),
-        field(
-            t.head,
-            payloads::TRADE_PAYMENTS,
-            payloads::TRADE_PAYMENTS_BITS,
-        ),
-        bit(t.head, payloads::TRADE_QUALIFYING),
-    );
-    let amounts = both(plain_value(t.value), plain_amount(t.notional));
-    let days = both(plain_days(t.days), plain_days(t.reset_days));
-    let head = both(trade_head(t.head), classed);
-    both(both(head, both(amounts, days)), !resets_faulty(t))
-}
-
-// A trade without a fault stands at a place. Its words are all there before `end`, which is the length less its amounts.
-pub fn good_trade(part: &[u32], at: usize, end: usize) -> bool
-    requires { (length part.now ≤ 2 ^ 20) × (end ≡ length part.now - 4) }
-    ensures { result ≡ sound_trade part.now at }
-{
-    if end <= at {
-        return false;
+    #[tactic(auto, unfolding(crate::specs::Words::good_trade))]
+    fn is_good(self, _table: &()) -> bool {
+        let head = is_head(self.head, Kind::Trade, 13) & !self.class_faulty();
+        let amounts = plain_value(self.value) & plain_amount(self.notional);
+        let days = plain_days(self.days) & plain_days(self.reset_days);
+        head & (amounts & days) & !self.resets_faulty()
     }
-    trade_words_good(trade_words(part, at))
+
+    ghost good_is = { trade_is };
 }
 
-// A written credit's head word with no bit that has no meaning.
-fn written_head(w: u32) -> bool
-    ensures { result ≡ (eqb (kind_of w) 6 && not (leb (2 ^ 23) (payload_of w))) }
-{
-    w >> 23 == WRITTEN_HEAD
-}
+impl Good for WrittenWords {
+    const KIND: Kind = Kind::WrittenCredit;
 
-fn written_words_good(w: WrittenWords) -> bool
-    ensures { result ≡ good_written w }
-{
-    let first = both(plain_value(w.value), plain_amount(w.notional));
-    let later = both(plain_amount(w.loss_taken), plain_amount(w.premiums));
-    let amounts = both(both(first, later), plain_days(w.days));
-    let beyond = size(w.notional) < size(w.loss_taken);
-    both(both(written_head(w.head), amounts), !beyond)
-}
+    type Table = ();
 
-// The same of a written credit.
-pub fn good_written(part: &[u32], at: usize, end: usize) -> bool
-    requires { (length part.now ≤ 2 ^ 20) × (end ≡ length part.now - 5) }
-    ensures { result ≡ sound_written part.now at }
-{
-    if end <= at {
-        return false;
+    ghost KIND = { WrittenCredit };
+
+    ghost good = { good_written };
+
+    #[tactic(auto, unfolding(crate::specs::Words::good_written))]
+    fn is_good(self, _table: &()) -> bool {
+        let first = plain_value(self.value) & plain_amount(self.notional);
+        let later = plain_amount(self.loss_taken) & plain_amount(self.premiums);
+        let amounts = first & later & plain_days(self.days);
+        let beyond = size(self.notional) < size(self.loss_taken);
+        is_head(self.head, Kind::WrittenCredit, 23) & amounts & !beyond
     }
-    written_words_good(written_words(part, at))
+
+    ghost good_is = { written_is };
 }
 
-// A cover's head word with no bit that has no meaning.
-fn cover_head(w: u32) -> bool
-    ensures { result ≡ (eqb (kind_of w) 7 && not (leb (2 ^ 12) (payload_of w))) }
-{
-    w >> 12 == COVER_HEAD
-}
+impl Good for CoverWords {
+    const KIND: Kind = Kind::Cover;
 
-// The whole word is compared with 0, not its size: with a mask the compiler makes a branch of it, which costs covered credit 5% (docs/BENCHMARKS.md).
-fn cover_words_good(c: CoverWords) -> bool
-    ensures { result ≡ good_cover c }
-{
-    let amount = both(plain_amount(c.amount), c.amount != 0);
-    both(cover_head(c.head), amount)
-}
+    type Table = ();
 
-// The same of a cover.
-pub fn good_cover(part: &[u32], at: usize, end: usize) -> bool
-    requires { (length part.now ≤ 2 ^ 20) × (end ≡ length part.now - 1) }
-    ensures { result ≡ sound_cover part.now at }
-{
-    if end <= at {
-        return false;
+    ghost KIND = { Cover };
+
+    ghost good = { good_cover };
+
+    // The whole word is compared with 0, not its size: with a mask the compiler makes a branch of it, which costs covered credit 5%
+    // (docs/BENCHMARKS.md).
+    #[tactic(auto, using(crate::proofs::GoodRecords::whole_amount), unfolding(crate::specs::Words::good_cover))]
+    fn is_good(self, _table: &()) -> bool {
+        let amount = plain_amount(self.amount) & (self.amount != 0);
+        is_head(self.head, Kind::Cover, 12) & amount
     }
-    cover_words_good(cover_words(part, at))
+
+    ghost good_is = { cover_is };
+}
+
+// The first of the causes 6 to 9 of the record at a place, if there is one; they are not asked for where its whole words tell that there is none.
+pub fn fault_at<R: Good<Table = ()>>(part: &[u32], at: usize) -> Result<(), Refusal>
+    requires { Readable (suc at) part.now }
+    ensures { FaultAt (record_cause R.AMOUNTS part.now at (R.fault (R.words_at part.now at))) at result }
+{
+    let end = part.len().saturating_sub(R::AMOUNTS);
+    if good_at::<R>(part, at, end, &()) {
+        return Ok(());
+    }
+    at_place(check_at::<R>(part, at), at)
 }

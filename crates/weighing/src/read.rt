@@ -1,10 +1,17 @@
-// The words of each record of a derivative set, by the field's names (document 01, "Records", kinds 4 to 7).
-ghost use Rattle.std.specs.Prelude.{◌≡◌, ◌+◌};
-ghost use Rattle.records.specs.Readable.{Readable};
-ghost use Rattle.weighing.specs.Words.{cover_words, set_words, trade_words, written_words};
+// The words of each record of a derivative set, by the field's names (document 01, "Records", kinds 4 to 7), and the causes 7 to 9 that fit them
+// ("When a book is turned away").
+ghost use Rattle.weighing.specs.Words.{cover_fault_of, cover_words, set_fault_of, set_words_at, trade_fault_of, trade_words, written_fault_of, written_words};
+ghost use Rattle.std.proofs.Common.{rules};
+
+use records::record::Record;
+use rules::causes::Cause;
+use rules::{amounts, payloads};
+use words::amount::{faulty_amount, size};
+use words::causes::refuse_if;
+use words::parts::payload;
 
 // Kind 4.
-#[derive(Clone, Copy)]
+#[derive(Clone, Copy, Debug, PartialEq, Eq)]
 pub struct SetWords {
     pub head: u32,
     pub received: u32,
@@ -13,7 +20,7 @@ pub struct SetWords {
 }
 
 // Kind 5.
-#[derive(Clone, Copy)]
+#[derive(Clone, Copy, Debug, PartialEq, Eq)]
 pub struct TradeWords {
     pub head: u32,
     pub value: u32,
@@ -23,7 +30,7 @@ pub struct TradeWords {
 }
 
 // Kind 6.
-#[derive(Clone, Copy)]
+#[derive(Clone, Copy, Debug, PartialEq, Eq)]
 pub struct WrittenWords {
     pub head: u32,
     pub value: u32,
@@ -34,58 +41,141 @@ pub struct WrittenWords {
 }
 
 // Kind 7.
-#[derive(Clone, Copy)]
+#[derive(Clone, Copy, Debug, PartialEq, Eq)]
 pub struct CoverWords {
     pub head: u32,
     pub amount: u32,
 }
 
-// The set whose head the words begin with.
-pub fn set_words(part: &[u32]) -> SetWords
-    requires { Readable 4 part.now }
-    ensures { result ≡ set_words part.now }
-{
-    SetWords {
-        head: part[0],
-        received: part[1],
-        paid: part[2],
-        posted: part[3],
+impl Record for SetWords {
+    const AMOUNTS: usize = amounts::DERIVATIVE_SET;
+
+    ghost AMOUNTS = { 3 };
+
+    ghost words_at = { set_words_at };
+
+    ghost fault = { set_fault_of };
+
+    fn read(part: &[u32], at: usize) -> Self {
+        SetWords {
+            head: part[at],
+            received: part[at + 1],
+            paid: part[at + 2],
+            posted: part[at + 3],
+        }
     }
+
+    #[tactic(auto, unfolding(rules::specs::Faults::cause, rules::specs::Faults::derivative_set_fault))]
+    fn check(self) -> Result<(), Cause> {
+        let margin = faulty_amount(self.received) | faulty_amount(self.paid);
+        refuse_if(
+            payload(self.head) >= payloads::DERIVATIVE_SET_END,
+            Cause::PayloadFaulty,
+        )?;
+        refuse_if(margin | faulty_amount(self.posted), Cause::AmountFaulty)
+    }
+
+    ghost some_amounts = { Prim.search rules };
+
+    ghost few_amounts = { Prim.search rules };
 }
 
-pub fn trade_words(part: &[u32], at: usize) -> TradeWords
-    requires { Readable (at + 5) part.now }
-    ensures { result ≡ trade_words part.now at }
-{
-    TradeWords {
-        head: part[at],
-        value: part[at + 1],
-        notional: part[at + 2],
-        days: part[at + 3],
-        reset_days: part[at + 4],
+impl Record for TradeWords {
+    const AMOUNTS: usize = amounts::TRADE;
+
+    ghost AMOUNTS = { 4 };
+
+    ghost words_at = { trade_words };
+
+    ghost fault = { trade_fault_of };
+
+    fn read(part: &[u32], at: usize) -> Self {
+        TradeWords {
+            head: part[at],
+            value: part[at + 1],
+            notional: part[at + 2],
+            days: part[at + 3],
+            reset_days: part[at + 4],
+        }
     }
+
+    #[tactic(auto, unfolding(rules::specs::Faults::cause, rules::specs::Faults::trade_fault))]
+    fn check(self) -> Result<(), Cause> {
+        refuse_if(self.bits_faulty(), Cause::PayloadFaulty)?;
+        refuse_if(self.amounts_faulty(), Cause::AmountFaulty)?;
+        refuse_if(self.resets_faulty(), Cause::AmountsAtOdds)
+    }
+
+    ghost some_amounts = { Prim.search rules };
+
+    ghost few_amounts = { Prim.search rules };
 }
 
-pub fn written_words(part: &[u32], at: usize) -> WrittenWords
-    requires { Readable (at + 6) part.now }
-    ensures { result ≡ written_words part.now at }
-{
-    WrittenWords {
-        head: part[at],
-        value: part[at + 1],
-        notional: part[at + 2],
-        loss_taken: part[at + 3],
-        days: part[at + 4],
-        premiums: part[at + 5],
+impl Record for WrittenWords {
+    const AMOUNTS: usize = amounts::WRITTEN_CREDIT;
+
+    ghost AMOUNTS = { 5 };
+
+    ghost words_at = { written_words };
+
+    ghost fault = { written_fault_of };
+
+    fn read(part: &[u32], at: usize) -> Self {
+        WrittenWords {
+            head: part[at],
+            value: part[at + 1],
+            notional: part[at + 2],
+            loss_taken: part[at + 3],
+            days: part[at + 4],
+            premiums: part[at + 5],
+        }
     }
+
+    // "loss taken into Tier 1 (at most notional)"
+    #[tactic(auto, unfolding(rules::specs::Faults::cause, rules::specs::Faults::written_fault))]
+    fn check(self) -> Result<(), Cause> {
+        let beyond = size(self.notional) < size(self.loss_taken);
+        refuse_if(
+            payload(self.head) >= payloads::WRITTEN_CREDIT_END,
+            Cause::PayloadFaulty,
+        )?;
+        refuse_if(self.amounts_faulty(), Cause::AmountFaulty)?;
+        refuse_if(beyond, Cause::AmountsAtOdds)
+    }
+
+    ghost some_amounts = { Prim.search rules };
+
+    ghost few_amounts = { Prim.search rules };
 }
 
-pub fn cover_words(part: &[u32], at: usize) -> CoverWords
-    requires { Readable (at + 2) part.now }
-    ensures { result ≡ cover_words part.now at }
-{
-    CoverWords {
-        head: part[at],
-        amount: part[at + 1],
+impl Record for CoverWords {
+    const AMOUNTS: usize = amounts::COVER;
+
+    ghost AMOUNTS = { 1 };
+
+    ghost words_at = { cover_words };
+
+    ghost fault = { cover_fault_of };
+
+    fn read(part: &[u32], at: usize) -> Self {
+        CoverWords {
+            head: part[at],
+            amount: part[at + 1],
+        }
     }
+
+    // "Amount, at least 1"
+    #[tactic(auto, unfolding(rules::specs::Faults::cause, rules::specs::Faults::cover_fault))]
+    fn check(self) -> Result<(), Cause> {
+        let amount = faulty_amount(self.amount) | (size(self.amount) == 0);
+        refuse_if(
+            payload(self.head) >= payloads::COVER_END,
+            Cause::PayloadFaulty,
+        )?;
+        refuse_if(amount, Cause::AmountFaulty)
+    }
+
+    ghost some_amounts = { Prim.search rules };
+
+    ghost few_amounts = { Prim.search rules };
 }

@@ -1,3 +1,4 @@
 pub mod Masks
 pub mod Both
 pub mod Padded
+pub mod Heads

@@ -4,6 +4,7 @@ use mathlib.Core.Bool.{false}
 use Prim.Native.Nat.{ℕ, ◌*◌, ◌/◌, ◌%◌, ◌^◌, ◌≤◌, ◌<◌}
 use native.Mathlib.Nat.{lt_of_lt_of_le, lt_of_le_of_lt, div-eq_of_lt, div-le_self, mod-eq_of_lt, one-mul, zero-mod}
 use lib.Pow.{pow-lt, pow_mono}
+use lib.Bits.{and_mask}
 use Rattle.rules.specs.Word.{bit_of, field_of}
 
 beyond : (k w : ℕ) → w < 2 ^ 32 → 32 ≤ k → w / 2 ^ k ≡ 0
@@ -23,3 +24,6 @@ field_whole low count w h 32≤count =
 -- a shift of 1 by less than 32 loses nothing
 pub shifted_one : (count : ℕ) → count < 32 → 1 * 2 ^ count % 2 ^ 32 ≡ 2 ^ count
 shifted_one count h = rw one-mul (mod-eq_of_lt (pow-lt h))
+
+-- what a field goes by
+pub ruleset field_steps = (field_beyond, field_whole, shifted_one, and_mask)

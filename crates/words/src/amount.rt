@@ -2,7 +2,6 @@
 ghost use Rattle.std.specs.Prelude.{◌≡◌, not, ◌&&◌, eqb};
 ghost use Rattle.rules.specs.Word.{bit_of, kind_of, faulty_amount, faulty_days, gain_of, loss_of, minus_zero, size_of};
 
-use crate::numbers::both;
 use crate::parts::{bit, payload};
 use rules::limits;
 
@@ -20,23 +19,19 @@ pub fn negative(w: u32) -> bool
 }
 
 // The size where the sign is not set, otherwise 0.
+#[tactic(auto, unfolding(rules::specs::Word::gain_of))]
 pub fn gain(w: u32) -> u32
     ensures { result ≡ gain_of w }
 {
-    if negative(w) {
-        return 0;
-    }
-    size(w)
+    if negative(w) { 0 } else { size(w) }
 }
 
 // The size where the sign is set, otherwise 0.
+#[tactic(auto, unfolding(rules::specs::Word::loss_of))]
 pub fn loss(w: u32) -> u32
     ensures { result ≡ loss_of w }
 {
-    if negative(w) {
-        return size(w);
-    }
-    0
+    if negative(w) { size(w) } else { 0 }
 }
 
 // The sign and no size.
@@ -64,7 +59,7 @@ pub fn faulty_days(w: u32) -> bool
 pub fn plain_value(w: u32) -> bool
     ensures { result ≡ (eqb (kind_of w) 0 && not (minus_zero w)) }
 {
-    both(w < 0x10000000, w != 0x08000000)
+    (w < 0x10000000) & (w != 0x08000000)
 }
 
 // Days: as one test of the whole word.

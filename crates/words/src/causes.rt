@@ -1,13 +1,14 @@
-// "its causes in table order": a record's fault is a chain of numbers, each with its test, and 0 behind the last. The tests are all made, so
-// that the code has the shape of the definitions and no branch hangs on a test.
+// "its causes in table order": the fault of a record is a chain of tests, each with its cause, and the first that holds ends it.
 ghost use Rattle.std.specs.Prelude.{◌≡◌};
 ghost use Rattle.rules.specs.Faults as faults;
+ghost use Rattle.rules.specs.Numbers.{cause_number, fault_in};
 
-pub fn cause(number: u32, test: bool, next: u32) -> u32
-    ensures { result ≡ faults.cause number test next }
+use rules::causes::Cause;
+
+// A link of such a chain: behind it stands `?`.
+#[tactic(auto, unfolding(rules::specs::Faults::cause))]
+pub fn refuse_if(test: bool, which: Cause) -> Result<(), Cause>
+    ensures { fault_in result ≡ faults.cause (cause_number which) test 0 }
 {
-    if test {
-        return number;
-    }
-    next
+    if test { Err(which) } else { Ok(()) }
 }

@@ -1,13 +1,12 @@
-use mathlib.Core.Bool.{not}
-use mathlib.Core.Path.{ap}
+use mathlib.Core.Path.{sym}
 use Rattle.derivatives.proofs.Baskets.{basket_faulty, basket_roomy, basket_good}
 use Rattle.derivatives.proofs.members.basket.Goals as goal
 
-pub returns-in-Refused : goal.returns-in-Refused
-returns-in-Refused c = basket_faulty c.requires c.standing.ensures (ap not c.if-not-standing.false) c.basket_at.ensures _ c.in-Refused.is
+pub returns-in-Err : goal.returns-in-Err
+returns-in-Err c = basket_faulty c.requires (sym c.if-not-standing.ensures) c.basket_at.result c.basket_at.ensures c.in-Err.cause c.in-Err.is
 
 pub add_basket-requires : goal.add_basket-requires
-add_basket-requires c = basket_roomy c.requires c.standing.ensures (ap not c.if-not-standing.false) c.basket_at.ensures _ _ _ c.in-Whole.is
+add_basket-requires c = basket_roomy c.requires (sym c.if-not-standing.ensures) c.basket_at.result c.basket_at.ensures c.in-Ok.b c.in-Ok.is
 
-pub returns-in-Whole : goal.returns-in-Whole
-returns-in-Whole c = basket_good c.requires c.standing.ensures (ap not c.if-not-standing.false) c.basket_at.ensures _ _ _ c.in-Whole.is c.add_basket.ensures c.none.ensures
+pub returns-in-Ok : goal.returns-in-Ok
+returns-in-Ok c = basket_good c.requires (sym c.if-not-standing.ensures) c.basket_at.result c.basket_at.ensures c.in-Ok.b c.in-Ok.is c.add_basket.ensures

@@ -1,16 +1,14 @@
-use mathlib.Core.Bool.{not}
-use mathlib.Core.Path.{◌≡◌, refl, ap}
-use Rattle.rules.specs.Read.{stands}
-use Rattle.weighing.specs.Words.{cover_cause}
-use Rattle.weighing.proofs.GoodRecords.{sound_none, sound_some}
-use Rattle.derivatives.proofs.Covering.{cover_readable, cover_faulty, cover_good}
+use Rattle.std.proofs.lemmas.Result.{err_from_is_err_and}
+use Rattle.derivatives.proofs.Covering.{cover_faulty, cover_readable, cover_good}
 use Rattle.derivatives.proofs.members.cover.Goals as goal
 
-pub returns-then-not-good_cover : goal.returns-then-not-good_cover
-returns-then-not-good_cover c = cover_faulty c.requires.0.0 c.requires.1.1 c.cover_cause.ensures c.args.begin (λ z. sound_some _ c.good_cover.ensures c.requires.1.1 (ap not c.if-not-good_cover.true) (rw c.cover_cause.ensures at z))
+pub returns-in_err-fault_at : goal.returns-in_err-fault_at
+returns-in_err-fault_at c =
+    let p = err_from_is_err_and c.from_residual.result c.from_residual.ensures.1 in
+    rw (p.1, p.2) (cover_faulty c.requires.0.0 c.requires.1.1 c.in_err-fault_at.field-0.0 c.in_err-fault_at.ensures c.args.credit c.args.begin)
 
-pub cover_words-requires : goal.cover_words-requires
-cover_words-requires c = cover_readable c.requires.0.0 c.requires.1.1 refl (let its_none : cover_cause c.args.part.now c.args.o.at ≡ 0 = sound_none (stands 7 c.args.part.now c.args.o.at) c.good_cover.ensures (ap not c.if-not-good_cover.false) in its_none)
+pub read-requires-2 : goal.read-requires-2
+read-requires-2 c = cover_readable c.requires.0.0 c.requires.1.1 c.in_ok-fault_at.ensures
 
 pub returns : goal.returns
-returns c = cover_good c.requires.0.0 c.requires.1.1 refl (let its_none : cover_cause c.args.part.now c.args.o.at ≡ 0 = sound_none (stands 7 c.args.part.now c.args.o.at) c.good_cover.ensures (ap not c.if-not-good_cover.false) in its_none) c.requires.1.0 c.written_words.ensures c.cover_words.ensures c.args.begin c.draw_here-draw.ensures c.with_cover.ensures
+returns c = cover_good c.requires.0.0 c.requires.1.1 c.in_ok-fault_at.ensures c.requires.1.0 c.read.ensures c.read-2.ensures c.args.begin c.draw-draw.ensures c.with_cover.ensures

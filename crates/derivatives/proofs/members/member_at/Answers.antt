@@ -1,4 +1,4 @@
 use Rattle.derivatives.proofs.members.member_at.Goals as goal
 
-pub returns-then-k-eq-WRITTEN_CREDIT : goal.returns-then-k-eq-WRITTEN_CREDIT
-returns-then-k-eq-WRITTEN_CREDIT c = c.written.ensures c.args.bands
+pub returns-then-standing : goal.returns-then-standing
+returns-then-standing c = c.written.ensures c.args.bands

@@ -1,13 +1,7 @@
-use mathlib.Core.Path.{◌∙◌, ap}
-use Prim.Native.Nat.{ℕ}
-use Rattle.cuts.proofs.ByKind.{is_set}
-use Rattle.sets.specs.Search.{place_from}
+use mathlib.Core.Path.{refl}
+use Rattle.std.proofs.Common.{arith, rules}
 use Rattle.sets.proofs.FoundLaws.{found_there}
 use Rattle.sets.proofs.bounds.find_set.Goals as goal
 
-pub returns-then-begin-book : goal.returns-then-begin-book
-returns-then-begin-book c =
-    let ws = c.args.book.now in
-    found_there ws _ c.search-begin.result
-    (c.search-begin.ensures ∙ ap (λ (from : ℕ). place_from is_set ws from c.args.ordinal) c.items_begin.ensures)
-    c.if-begin-book.true _ c.end_of.ensures _ c.search-end.ensures
+pub returns : goal.returns
+returns c = rw (← found_there c.args.book.now _ c.in-Some.begin c.in-Some.ensures c.set_end-end.result c.set_end-end.ensures.0) ((refl, (refl, (refl, (refl, search rules)))), (omega (arith, c.set_end-end.ensures.1.0), c.set_end-end.ensures.1.1))

@@ -1,11 +1,9 @@
+-- What is looked for from here on is what was looked for from the start.
+use Prim.Native.Nat.{ℕ}
 use mathlib.Core.Path.{◌≡◌}
-use Prim.Native.Nat.{◌-◌}
-use lib.ListN.{length}
-use Rattle.sets.specs.Search.{passes, place_from}
+use mathlib.Core.Bool.{Bool}
+use Rattle.sets.specs.Search.{place_from, Tells}
 use Rattle.sets.proofs.search.one_by_one.Given as goal
 
-abbrev pub invariant-loop-at : goal.invariant-loop-at
-invariant-loop-at l = place_from (passes l.sought) l.book l.at l.left ≡ place_from (passes l.sought) l.book l.initial.at l.initial.left
-
-abbrev pub decreases-loop-at : goal.decreases-loop-at
-decreases-loop-at l = length l.book - l.at
+abbrev pub invariant-loop-i : goal.invariant-loop-i
+invariant-loop-i g l = (test : ℕ → Bool) → Tells g.F.Fn l.fn.passes test → place_from test l.words l.i l.left ≡ place_from test l.words 0 l.fn.ordinal
