@@ -38,7 +38,7 @@ pub due : (b : Bool) (x : Option OpenCredit) (c : OpenCredit) → cond b x None 
 due true x c e = (e, refl)
 due false x c e = absurd cc
 
-not_due : (b : Bool) (c : OpenCredit) → cond b (Some c) None ≡ None → b ≡ false
+pub not_due : (b : Bool) (c : OpenCredit) → cond b (Some c) None ≡ None → b ≡ false
 not_due true c e = absurd cc
 not_due false c e = refl
 
@@ -79,7 +79,7 @@ module _ {ws : List ℕ} {o : OpenSet} (s : SoundSet ws o) where
           uncovered = omega (arith, open_small.uncovered);
         }
 
-  cover_there : stands 7 ws o.at ≡ true → Readable (suc o.at) ws
+  pub cover_there : stands 7 ws o.at ≡ true → Readable (suc o.at) ws
   cover_there k = record { within = omega (arith, (stands_is 7 ws o.at k).0); short = s.readable.short }
 
   -- ---- what lies ahead

@@ -185,11 +185,11 @@ SoundStretch ws from (Ok (Cover d o)) = SoundSet ws o
 SoundStretch ws from (Ok (Whole t place)) = Standing ws place t × (Neither ws place × (from ≤ place))
 SoundStretch ws from (Err r) = r.place ≤ length ws
 
--- a basket, if one stands there
+-- a basket, if one stands there; a refusal is of that basket, and of no record behind it
 abbrev pub BasketTaken : List ℕ → (at : ℕ) → Tally → Result (Option OpenSet) Refusal → Type 0
 BasketTaken ws at t (Ok (Some o)) = (bands : Bands) → MemberRead bands ws at t (Ok (Next o))
 BasketTaken ws at t (Ok None) = stands 11 ws at ≡ false
-BasketTaken ws at t (Err r) = (bands : Bands) → MemberRead bands ws at t (Err r)
+BasketTaken ws at t (Err r) = ((bands : Bands) → MemberRead bands ws at t (Err r)) × (r.place ≡ at)
 
 -- the next cover, or the end
 abbrev pub weighed_ahead : Bands → List ℕ → (begin : ℕ) → Result Weighed Refusal → SetAhead

@@ -6,15 +6,15 @@ ghost use Rattle.figures.specs.Figures.{conversion_figures};
 // The figure of each class one place later, as bits 4-7 count. None, which lowers nothing; commitment to one year, longer, cancellable, credit
 // substitute, forward purchase, transaction contingency, note facility, trade letter, securitisation, eligible liquidity, servicer advance;
 // and 0 for what is beyond the eleven.
-const CONVERSIONS: [u64; 17] = [
+const CONVERSIONS: [u16; 17] = [
     1000, 200, 500, 100, 1000, 1000, 500, 500, 200, 1000, 500, 100, 0, 0, 0, 0, 0,
 ];
 
 // The table of the paper, as `paper` says of each one. A caller makes it once and lends it for each item, since the compiler makes a
-// constant table anew where it is read.
+// constant table anew where it is read. It is of 16 bits, to be less to make, once for each run of items.
 #[derive(Drop)]
 pub struct ConversionTable {
-    figures: [u64; 17],
+    figures: [u16; 17],
     ghost paper: { figures ≡ conversion_figures },
 }
 
@@ -33,6 +33,6 @@ impl ConversionTable {
         ensures { result ≡ conversion_of class committed }
     {
         let own = self.figures[(class + 1) as usize];
-        own.min(self.figures[committed as usize])
+        u64::from(own.min(self.figures[committed as usize]))
     }
 }

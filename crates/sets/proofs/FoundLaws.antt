@@ -1,17 +1,20 @@
 -- What a search finds as the code hands it on: a span of the book, for every book. Assumes nothing.
 use Prim.Native.Nat.{ℕ, ◌+◌, ◌≤◌, ◌<◌}
-use mathlib.Core.Path.{◌≡◌, refl, sym, ◌∙◌}
+use mathlib.Core.Path.{◌≡◌, refl, sym}
 use mathlib.Core.List.{List}
-use mathlib.Core.Bool.{Bool}
+use mathlib.Core.Bool.{Bool, true, false, cond}
 use native.Mathlib.Omega.{arith}
 use borrow.Author.Tests.{lt-ltb, le-ltb}
+use lib.Dec.{eqb}
 use lib.ListN.{length}
 use denote.Ref.{Bor}
 use Rattle.std.proofs.Common.{Option, Some, None}
 use Rattle.std.specs.Option.{unwrap_or}
 use Rattle.rules.specs.Word.{word, kind_of}
 use Rattle.sets.specs.Sets.{Shown, turned_away, VeryStretch}
-use Rattle.sets.specs.Search.{ends, place_from, found_at, IsPlace}
+use Rattle.cuts.proofs.ByKind.{opens}
+use Rattle.sets.specs.declared.sought.Sought.TheVariants.{EndOfDerivatives, EndOfFinancing}
+use Rattle.sets.specs.Search.{leaves_financing, ends, passes, end_of, place_from, found_at, IsPlace}
 use Rattle.sets.proofs.SearchLaws.{place_within}
 
 -- where a place is answered, the set there is what is shown
@@ -23,20 +26,26 @@ found_there ws place begin p end f = rw (← p.0, lt-ltb begin (length ws) p.1, 
 pub found_none : (ws : List ℕ) (place : ℕ) → IsPlace (length ws) place None → turned_away 15 0 ≡ found_at ws place
 found_none ws place p = rw (p, le-ltb (length ws) (length ws) (omega arith)) refl
 
--- where it ends
-pub set_ends : (ws : List ℕ) (begin end : ℕ) (test : ℕ → Bool) → ends (kind_of (word ws begin)) ≡ test → begin < length ws → (at : Option ℕ) → IsPlace (length ws) (place_from test ws (begin + 1) 0) at
-    → end ≡ unwrap_or at (length ws) → (end ≡ place_from (ends (kind_of (word ws begin))) ws (begin + 1) 0) × ((begin < end) × (end ≤ length ws))
-set_ends ws begin end test t l at p e = rw t (is, (omega (arith, is, within.0), omega (arith, is, within.1)))
+-- a place that is answered, and the length where none is
+pub place_or_end : (length place : ℕ) (at : Option ℕ) → IsPlace length place at → unwrap_or at length ≡ place
+place_or_end length place (Some i) p = p.0
+place_or_end length place None p = sym p
+
+-- what ends a set, by the name of what is sought
+ends_by : (kind : ℕ) → passes (end_of kind) ≡ ends kind
+ends_by kind = go (eqb kind 8)
   where
-    of : (at : Option ℕ) → IsPlace (length ws) (place_from test ws (begin + 1) 0) at → unwrap_or at (length ws) ≡ place_from test ws (begin + 1) 0
-    of (Some i) p = p.0
-    of None p = sym p
+    go : (b : Bool) → passes (cond b EndOfFinancing EndOfDerivatives) ≡ cond b leaves_financing opens
+    go true = refl
+    go false = refl
 
-    is : end ≡ place_from test ws (begin + 1) 0
-    is = e ∙ of at p
-
-    within : (begin + 1 ≤ place_from test ws (begin + 1) 0) × (place_from test ws (begin + 1) 0 ≤ length ws)
-    within = place_within test ws (begin + 1) 0 (omega arith)
+-- where it ends
+pub set_ends : (ws : List ℕ) (begin end : ℕ) → begin < length ws → end ≡ place_from (passes (end_of (kind_of (word ws begin)))) ws (begin + 1) 0
+    → (end ≡ place_from (ends (kind_of (word ws begin))) ws (begin + 1) 0) × ((begin < end) × (end ≤ length ws))
+set_ends ws begin end l e = rw (← ends_by (kind_of (word ws begin))) (e, (omega (arith, e, within.0), omega (arith, e, within.1)))
+  where
+    within : (begin + 1 ≤ place_from (passes (end_of (kind_of (word ws begin)))) ws (begin + 1) 0) × (place_from (passes (end_of (kind_of (word ws begin)))) ws (begin + 1) 0 ≤ length ws)
+    within = place_within (passes (end_of (kind_of (word ws begin)))) ws (begin + 1) 0 (omega arith)
 
 -- the very stretch of what is equal
 pub very_same : (book r : Bor (List ℕ)) (s t : Shown) → s ≡ t → VeryStretch book s r → VeryStretch book t r

@@ -11,6 +11,8 @@ use Rattle.cuts.proofs.Cutting.{items_begin}
 use Rattle.cuts.proofs.Scan.{scan}
 use Rattle.cuts.proofs.ByKind.{opens}
 use Rattle.cuts.proofs.ByKind as by_kind
+use Rattle.sets.specs.declared.sought.Sought.{Sought}
+use Rattle.sets.specs.declared.sought.Sought.TheVariants.{Set, EndOfDerivatives, EndOfFinancing}
 use Rattle.sets.specs.Sets.{Shown, turned_away, VeryStretch}
 
 -- ---- what is sought
@@ -22,6 +24,16 @@ leaves_financing kind = not (eqb kind 0 || eqb kind 9)
 -- the kinds of words that end the set whose head has this kind
 abbrev pub ends : ℕ → (ℕ → Bool)
 ends head = cond (eqb head 8) leaves_financing opens
+
+-- the kinds of words that are sought
+abbrev pub passes : Sought → ℕ → Bool
+passes Set kind = by_kind.is_set kind
+passes EndOfDerivatives kind = opens kind
+passes EndOfFinancing kind = leaves_financing kind
+
+-- what ends the set whose head has this kind
+abbrev pub end_of : ℕ → Sought
+end_of kind = cond (eqb kind 8) EndOfFinancing EndOfDerivatives
 
 -- ---- a search
 

@@ -5,13 +5,12 @@ ghost use Rattle.cuts.proofs.Cutting.{items_begin};
 ghost use Rattle.cuts.proofs.ByKind as by_kind;
 ghost use Rattle.sets.specs.Search.{ends, found_at, place_from, IsPlace, Shows, Within};
 
-use crate::kinds::{below_sets, leaves_financing, opens_item, opens_set, unasked};
-use crate::search::search;
+use crate::kinds::{below_sets, opens_set};
+use crate::search::{search, search_by};
+use crate::sought::end_of;
 use heads::head::protections_of;
 use rules::causes::{Cause, Refusal};
-use rules::kinds::Kind;
 use rules::{lengths, limits};
-use words::parts::is_kind;
 
 // "An ordinal with no set is refused 15 ... with place 0".
 pub const NO_SUCH_SET: Refusal = Refusal {
@@ -31,21 +30,17 @@ pub fn items_begin(book: &[u32]) -> usize
 pub fn set_begin(book: &[u32], ordinal: usize) -> Option<usize>
     ensures { IsPlace (length book.now) (place_from by_kind.is_set book.now (items_begin book.now) ordinal) result }
 {
-    search(book, items_begin(book), ordinal, opens_set, below_sets)
+    search_by(book, items_begin(book), ordinal, opens_set, below_sets)
 }
 
-// Where the set ends that begins at a place. Behind a financing set two kinds are looked at instead of five, which is faster.
+// Where the set ends that begins at a place.
+#[tactic(auto, using(crate::proofs::FoundLaws::set_ends))]
 fn set_end(book: &[u32], begin: usize) -> usize
     requires { begin < length book.now }
     ensures { (result ≡ place_from (ends (kind_of (word book.now begin))) book.now (begin + 1) 0)
         × ((begin < result) × (result ≤ length book.now)) }
 {
-    let next = if is_kind(book[begin], Kind::FinancingSet) {
-        search(book, begin + 1, 0, leaves_financing, unasked)
-    } else {
-        search(book, begin + 1, 0, opens_item, unasked)
-    };
-    next.unwrap_or(book.len())
+    search(book, begin + 1, 0, end_of(book[begin]))
 }
 
 // The words of the set of an ordinal from 0, if there is one: that very stretch of the lent book.

@@ -5,3 +5,4 @@ pub mod bounds;
 pub mod kinds;
 pub mod search;
 pub mod show;
+pub mod sought;

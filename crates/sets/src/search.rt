@@ -1,9 +1,13 @@
-// A search by kinds: block by block, then word by word. The caller brings the two tests, and the code of a search is made for them.
+// A search by kinds: block by block, then word by word. The caller brings the two tests, and the code of a search is made for them; or names what
+// is sought.
 ghost use Rattle.std.specs.Prelude.{◌≡◌, ◌≤◌, ◌<◌, ℕ, Bool, IfSome, count_by, length};
 ghost use Rattle.std.specs.List.{fold};
 ghost use Rattle.std.specs.Int.Bits.{bit_or};
 ghost use Rattle.rules.specs.Word.{kind_of};
-ghost use Rattle.sets.specs.Search.{place_from, IsPlace, IsQuiet, Tells};
+ghost use Rattle.sets.specs.Search.{passes, place_from, IsPlace, IsQuiet, Tells};
+
+use crate::kinds::{below_sets, leaves_financing, opens_item, opens_set, unasked};
+use crate::sought::Sought;
 
 // The words that are counted together, of which the machine takes several at once.
 const BLOCK: usize = 64;
@@ -67,7 +71,7 @@ fn one_by_one<F: Fn(u32) -> bool>(words: &[u32], ordinal: usize, passes: F) -> O
 
 // From a place on, where the word stands that has this ordinal, from 0, among those that pass. All blocks that do not
 // hold it are left behind.
-pub fn search<F: Fn(u32) -> bool + Copy, Q: Fn(u32) -> bool + Copy>(
+pub fn search_by<F: Fn(u32) -> bool + Copy, Q: Fn(u32) -> bool + Copy>(
     book: &[u32],
     from: usize,
     ordinal: usize,
@@ -90,4 +94,21 @@ pub fn search<F: Fn(u32) -> bool + Copy, Q: Fn(u32) -> bool + Copy>(
     }
     let at = one_by_one(rest, left, passes)?;
     Some(book.len() - rest.len() + at)
+}
+
+// From a place on, where the word stands that has this ordinal, from 0, among those that are sought; the book's length where there is none.
+pub fn search(book: &[u32], from: usize, ordinal: usize, sought: Sought) -> usize
+    ensures { result ≡ place_from (passes sought) book.now from ordinal }
+{
+    match sought {
+        Sought::Set => {
+            search_by(book, from, ordinal, opens_set, below_sets).unwrap_or(book.len())
+        }
+        Sought::EndOfDerivatives => {
+            search_by(book, from, ordinal, opens_item, unasked).unwrap_or(book.len())
+        }
+        Sought::EndOfFinancing => {
+            search_by(book, from, ordinal, leaves_financing, unasked).unwrap_or(book.len())
+        }
+    }
 }

@@ -49,7 +49,7 @@ module _ (verdicts : ℕ → ℕ) (met missed none m : ℕ) (c : Counting verdic
   )
 
   -- one setting more, by its verdict
-  counting_on : m < settings → (x y z : ℕ) → x ≡ cond (eqb (verdicts m) 0) 1 0 → y ≡ cond (eqb (verdicts m) 1) 1 0 → z ≡ cond (eqb (verdicts m) 2) 1 0
+  pub counting_on : m < settings → (x y z : ℕ) → x ≡ cond (eqb (verdicts m) 0) 1 0 → y ≡ cond (eqb (verdicts m) 1) 1 0 → z ≡ cond (eqb (verdicts m) 2) 1 0
       → Counting verdicts (met + x) (missed + y) (none + z) (m + 1)
   counting_on l x y z xq yq zq = record {
     met = leading_next verdicts 0 m met c.met refl xq;

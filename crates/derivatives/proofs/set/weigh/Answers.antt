@@ -14,4 +14,4 @@ returns-in-None c = weighing_whole c.loop-draw.invariant (rw c.in-Whole.is at c.
 pub returns-in_err-next-in-Whole : goal.returns-in_err-next-in-Whole
 returns-in_err-next-in-Whole c =
     let p = err_from_is_err_and c.from_residual-in_err-next-in-Whole.result c.from_residual-in_err-next-in-Whole.ensures.1 in
-    rw (p.1, p.2) (weighing_faulty c.loop-draw.invariant (rw c.in-Whole.is at c.in_ok-draw.ensures) c.in_err-next-in-Whole.field-0.0 c.in_err-next-in-Whole.ensures)
+    rw (p.1, p.2) (weighing_faulty c.loop-draw.invariant (rw c.in-Whole.is at c.in_ok-draw.ensures) c.in_err-next-in-Whole.field-0.0 c.in_err-next-in-Whole.ensures.0)

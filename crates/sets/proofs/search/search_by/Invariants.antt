@@ -5,7 +5,7 @@ use mathlib.Core.Bool.{Bool}
 use lib.ListN.{length}
 use Rattle.sets.specs.Search.{place_from, IsQuiet, Tells}
 use Rattle.sets.proofs.SearchLaws.{IsRest, begin_of}
-use Rattle.sets.proofs.search.search.Given as goal
+use Rattle.sets.proofs.search.search_by.Given as goal
 
 abbrev pub invariant-loop-block : goal.invariant-loop-block
 invariant-loop-block g l = record {
