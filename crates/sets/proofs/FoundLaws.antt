@@ -1,21 +1,16 @@
 -- What a search finds as the code hands it on: a span of the book, for every book. Assumes nothing.
-use Prim.Native.Nat.{ℕ, ◌+◌, ◌≤◌, ◌<◌}
+use Prim.Native.Nat.{ℕ, ◌+◌}
 use mathlib.Core.Path.{◌≡◌, refl, sym}
 use mathlib.Core.List.{List}
-use mathlib.Core.Bool.{Bool, true, false, cond}
 use native.Mathlib.Omega.{arith}
 use borrow.Author.Tests.{lt-ltb, le-ltb}
-use lib.Dec.{eqb}
 use lib.ListN.{length}
 use denote.Ref.{Bor}
 use Rattle.std.proofs.Common.{Option, Some, None}
 use Rattle.std.specs.Option.{unwrap_or}
 use Rattle.rules.specs.Word.{word, kind_of}
 use Rattle.sets.specs.Sets.{Shown, turned_away, VeryStretch}
-use Rattle.cuts.proofs.ByKind.{opens}
-use Rattle.sets.specs.declared.sought.Sought.TheVariants.{EndOfDerivatives, EndOfFinancing}
-use Rattle.sets.specs.Search.{leaves_financing, ends, passes, end_of, place_from, found_at, IsPlace}
-use Rattle.sets.proofs.SearchLaws.{place_within}
+use Rattle.sets.specs.Search.{ends, place_from, found_at, IsPlace}
 
 -- where a place is answered, the set there is what is shown
 pub found_there : (ws : List ℕ) (place begin : ℕ) → IsPlace (length ws) place (Some begin) → (end : ℕ) → end ≡ place_from (ends (kind_of (word ws begin))) ws (begin + 1) 0
@@ -30,22 +25,6 @@ found_none ws place p = rw (p, le-ltb (length ws) (length ws) (omega arith)) ref
 pub place_or_end : (length place : ℕ) (at : Option ℕ) → IsPlace length place at → unwrap_or at length ≡ place
 place_or_end length place (Some i) p = p.0
 place_or_end length place None p = sym p
-
--- what ends a set, by the name of what is sought
-ends_by : (kind : ℕ) → passes (end_of kind) ≡ ends kind
-ends_by kind = go (eqb kind 8)
-  where
-    go : (b : Bool) → passes (cond b EndOfFinancing EndOfDerivatives) ≡ cond b leaves_financing opens
-    go true = refl
-    go false = refl
-
--- where it ends
-pub set_ends : (ws : List ℕ) (begin end : ℕ) → begin < length ws → end ≡ place_from (passes (end_of (kind_of (word ws begin)))) ws (begin + 1) 0
-    → (end ≡ place_from (ends (kind_of (word ws begin))) ws (begin + 1) 0) × ((begin < end) × (end ≤ length ws))
-set_ends ws begin end l e = rw (← ends_by (kind_of (word ws begin))) (e, (omega (arith, e, within.0), omega (arith, e, within.1)))
-  where
-    within : (begin + 1 ≤ place_from (passes (end_of (kind_of (word ws begin)))) ws (begin + 1) 0) × (place_from (passes (end_of (kind_of (word ws begin)))) ws (begin + 1) 0 ≤ length ws)
-    within = place_within (passes (end_of (kind_of (word ws begin)))) ws (begin + 1) 0 (omega arith)
 
 -- the very stretch of what is equal
 pub very_same : (book r : Bor (List ℕ)) (s t : Shown) → s ≡ t → VeryStretch book s r → VeryStretch book t r

@@ -154,6 +154,12 @@ module _ (ws : List ℕ) where
       go true h = let same : at ≡ from = omega (arith, leb-true from (length ws) h) in rw same refl
       go false h = let over = leb-false from (length ws) h in place_over test ws at ordinal (omega arith) ∙ sym (place_over test ws from ordinal (omega arith))
 
+  -- and so no place lies beyond the end
+  pub place_most : (test : ℕ → Bool) (from ordinal : ℕ) → place_from test ws from ordinal ≤ length ws
+  place_most test from ordinal =
+      let near : min from (length ws) ≤ length ws = omega arith in
+      omega (arith, (place_within test ws (min from (length ws)) ordinal near).1, place_capped test from (min from (length ws)) ordinal refl)
+
   module _ (rest : List ℕ) (k : ℕ) (r : IsRest rest) (l : k ≤ length rest) (behind : List ℕ) (e : behind ≡ drop k rest) where
     later : length behind ≡ length rest - k
     later = ap length e ∙ length-drop k rest

@@ -21,10 +21,6 @@ use Rattle.sets.specs.Sets.{Shown, turned_away, VeryStretch}
 abbrev pub leaves_financing : ℕ → Bool
 leaves_financing kind = not (eqb kind 0 || eqb kind 9)
 
--- the kinds of words that end the set whose head has this kind
-abbrev pub ends : ℕ → (ℕ → Bool)
-ends head = cond (eqb head 8) leaves_financing opens
-
 -- the kinds of words that are sought
 abbrev pub passes : Sought → ℕ → Bool
 passes Set kind = by_kind.is_set kind
@@ -34,6 +30,10 @@ passes EndOfFinancing kind = leaves_financing kind
 -- what ends the set whose head has this kind
 abbrev pub end_of : ℕ → Sought
 end_of kind = cond (eqb kind 8) EndOfFinancing EndOfDerivatives
+
+-- the kinds of words that end the set whose head has this kind
+abbrev pub ends : ℕ → (ℕ → Bool)
+ends head = passes (end_of head)
 
 -- ---- a search
 

@@ -5,9 +5,8 @@ ghost use Rattle.cuts.proofs.Cutting.{items_begin};
 ghost use Rattle.cuts.proofs.ByKind as by_kind;
 ghost use Rattle.sets.specs.Search.{ends, found_at, place_from, IsPlace, Shows, Within};
 
-use crate::kinds::{below_sets, opens_set};
-use crate::search::{search, search_by};
-use crate::sought::end_of;
+use crate::search::search;
+use crate::sought::{Sought, end_of};
 use heads::head::protections_of;
 use rules::causes::{Cause, Refusal};
 use rules::{lengths, limits};
@@ -26,15 +25,21 @@ pub fn items_begin(book: &[u32]) -> usize
     limits::FIRST_RECORD + lengths::PROTECTION * protections_of(book)
 }
 
-// Where the set of an ordinal from 0 begins, if there is one. Stretches of assets alone are seen by their bits to have none.
+// Where the set of an ordinal from 0 begins, if there is one.
+#[tactic(auto, using(crate::proofs::SearchLaws::place_most))]
 pub fn set_begin(book: &[u32], ordinal: usize) -> Option<usize>
     ensures { IsPlace (length book.now) (place_from by_kind.is_set book.now (items_begin book.now) ordinal) result }
 {
-    search_by(book, items_begin(book), ordinal, opens_set, below_sets)
+    let begin = search(book, items_begin(book), ordinal, Sought::Set);
+    if begin < book.len() {
+        Some(begin)
+    } else {
+        None
+    }
 }
 
 // Where the set ends that begins at a place.
-#[tactic(auto, using(crate::proofs::FoundLaws::set_ends))]
+#[tactic(auto, using(crate::proofs::SearchLaws::place_within))]
 fn set_end(book: &[u32], begin: usize) -> usize
     requires { begin < length book.now }
     ensures { (result ≡ place_from (ends (kind_of (word book.now begin))) book.now (begin + 1) 0)

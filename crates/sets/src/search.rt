@@ -97,6 +97,7 @@ pub fn search_by<F: Fn(u32) -> bool + Copy, Q: Fn(u32) -> bool + Copy>(
 }
 
 // From a place on, where the word stands that has this ordinal, from 0, among those that are sought; the book's length where there is none.
+// Stretches of assets alone are seen by their bits to have no set.
 pub fn search(book: &[u32], from: usize, ordinal: usize, sought: Sought) -> usize
     ensures { result ≡ place_from (passes sought) book.now from ordinal }
 {
